@@ -1,0 +1,4 @@
+pub mod Tables
+pub mod Limits
+pub mod Entries
+pub mod Numbers

@@ -1,0 +1,4 @@
+pub mod Search
+pub mod Changes
+pub mod Places
+pub mod Lent

@@ -1,0 +1,5 @@
+pub mod Agreeing
+pub mod Printing
+pub mod Reading
+pub mod Splitting
+pub mod Reports

@@ -1,0 +1,83 @@
+ghost use mathlib.Core.Path.{_≡_};
+ghost use Prim.Native.Nat.{_≤_};
+ghost use mathlib.Core.List.{_++_};
+ghost use lib.ListN.{length};
+ghost use Rattle.std.specs.Of.Vec.{vec-items};
+ghost use Rattle.std.specs.Vec.{made};
+ghost use Rattle.std.specs.shelf.Lists.{joined};
+ghost use Rattle.workshop.specs.Rows.{row-bytes};
+ghost use Rattle.workshop.specs.Lines.{lines-in};
+ghost use Rattle.workshop.specs.Stages.{start};
+ghost use Rattle.workshop.specs.Report.{row-of, file-gate, rows-from, report-of};
+use crate::faults::Fault;
+use crate::lines::first_line;
+use crate::lines::is_whole;
+use crate::rows::Row;
+use crate::stages::Stage;
+use std::alloc::AllocError;
+use std::alloc::Global;
+
+// A file of more bytes is not read.
+pub const LONGEST: usize = 65_536;
+
+// The report of a file's bytes.
+pub fn report(heap: Global, file: &[u8]) -> Result<Vec<u8>, AllocError>
+    ensures { λ r. ⌜ made r (λ v. vec-items v ≡ report-of (now (file .entry))) ⌝ }
+{
+    let mut report = Vec::new(heap);
+    match check_file(file) {
+        Ok(()) => print_lines(file, &mut report)?,
+        Err(fault) => answered(0, Err(fault)).print(&mut report)?,
+    }
+    Ok(report)
+}
+
+fn check_file(file: &[u8]) -> Result<(), Fault>
+    ensures { λ r. ⌜ r ≡ file-gate (now (file .entry)) ⌝ }
+{
+    if file.len() > LONGEST {
+        Err(Fault::TooLong)
+    } else if is_whole(file) {
+        Ok(())
+    } else {
+        Err(Fault::Unfinished)
+    }
+}
+
+// The row of a line.
+fn answered(line: u32, answer: Result<(), Fault>) -> Row
+    ensures { λ r. ⌜ r ≡ row-of line answer ⌝ }
+{
+    match answer {
+        Ok(()) => Row {
+            line,
+            answer: 0,
+            details: [0, 0, 0],
+            sheet: 0,
+        },
+        Err(fault) => Row {
+            line,
+            answer: fault.number(),
+            details: fault.details(),
+            sheet: 0,
+        },
+    }
+}
+
+// A row for each line of the file.
+fn print_lines(file: &[u8], report: &mut Vec<u8>) -> Result<(), AllocError>
+    requires { ⌜ length (now file) ≤ 65536 ⌝ }
+    ensures { λ r. ⌜ made r (λ _. vec-items (now (report .exit)) ≡ vec-items (now (report .entry)) ++ joined row-bytes (rows-from 1 start (lines-in (now (file .entry))))) ⌝ }
+{
+    let mut stage = Stage::Start;
+    let mut number = 0;
+    let mut text = file;
+    while let Some((line, rest)) = first_line(text) {
+        let (next, answer) = stage.answer(line);
+        stage = next;
+        number += 1;
+        answered(number, answer).print(report)?;
+        text = rest;
+    }
+    Ok(())
+}
