@@ -18,11 +18,11 @@ use Rattle.std.specs.declared.result.Result.{Result}
 use Rattle.std.specs.declared.result.Result.the-variants.{Ok, Err}
 use Rattle.register.specs.declared.Full.{Full}
 use Rattle.register.proofs.Search.{place-known}
-use Rattle.register.specs.Held.{held, place-of, record-of, adding, count-added, places-added, count-struck, places-struck, struck-at}
+use Rattle.register.specs.Held.{all-taken, held, place-of, record-of, adding, count-added, places-added, count-struck, places-struck, struck-at}
 
 -- with a free place, and without one
 by-room : {R : Type 0} (b : Bool) (k n : ℕ) (more same rest whole : List R) (r : Result (Unit {0}) Full) →
-    same ++ rest ≡ whole → r ≡ cond b (Ok tt) (Err (record {})) → n ≡ cond b (k + 1) k →
+    same ++ rest ≡ whole → r ≡ cond b (Ok tt) (Err all-taken) → n ≡ cond b (k + 1) k →
     (n ≡ cond (isOk r) (k + 1) k) × (cond b more same ++ rest ≡ cond (isOk r) (more ++ rest) whole)
 by-room true k n more same rest whole r w e c = (rw e c, rw e)
 by-room false k n more same rest whole r w e c = (rw e c, rw e w)
@@ -67,5 +67,5 @@ module _ {R : Type 0} (xs : List R) (g m : ℕ) (is : m ≡ min g (length xs)) w
       let known = answer ∙ sym (place-known f j (held k (take g xs))) in (
         by-count r (isSome (record-of f j (held k (take g xs)))) n (length (held k (take g xs)) - 1) k answer (counted ∙ ap (count-struck f j k) lent-part),
         ap (λ l. l ++ drop (m - 0) xs) (placed ∙ ap (places-struck f j k) lent-part) ∙ ap (λ l. places-struck f j k (take g xs) ++ l) lent-rest
-            ∙ by-place r (place-of f j (held k (take g xs))) k (take g xs) (drop g xs) xs known (take-append-drop g xs),
+            ∙ by-place r (place-of f j (held k (take g xs))) (length (held k (take g xs))) (take g xs) (drop g xs) xs known (take-append-drop g xs),
       )

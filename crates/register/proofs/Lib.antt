@@ -1,4 +1,3 @@
 pub mod Search
 pub mod Changes
 pub mod Places
-pub mod Lent

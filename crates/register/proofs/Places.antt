@@ -1,6 +1,6 @@
 -- The places after a record is added or struck.
 use mathlib.Core.Path.{_≡_, refl, sym, ap, subst, _∙_}
-use mathlib.Core.Bool.{Bool, true, false, cond}
+use mathlib.Core.Bool.{cond}
 use mathlib.Core.List.{List, [], _∷_, _++_}
 use mathlib.Core.Logic.{inl, inr}
 use Prim.Native.Nat.{ℕ, suc, min, _+_, _-_, _<_, _≤_}
@@ -14,9 +14,8 @@ use Rattle.std.proofs.shelf.Edits.{paste-more, paste-none, length-removed}
 use Rattle.std.proofs.shelf.Lists.{take-more-set}
 use Rattle.std.proofs.shelf.Parts.{between-is}
 use Rattle.std.proofs.shelf.Tests.{lt-ltb, cond-both, cases-lt}
-use Rattle.std.specs.declared.option.Option.{Option}
-use Rattle.std.specs.declared.option.Option.the-variants.{Some, None}
-use Rattle.register.specs.Held.{held, place-of, record-of, without, count-added, places-added, struck, struck-at, count-struck, places-struck}
+use Rattle.std.specs.declared.option.Option.the-variants.{Some}
+use Rattle.register.specs.Held.{held, place-of, record-of, without, count-added, places-added, struck, count-struck, places-struck}
 use Rattle.register.specs.Laws.{Added, StaysUnrepeated, Struck}
 use Rattle.register.proofs.Search.{cases-option, record-none, place-within, place-known, removed-without}
 use Rattle.register.proofs.Changes.{without-unknown, added-last, unrepeated-added, struck-without}
@@ -47,13 +46,24 @@ module _ {R : Type 0} (xs : List R) (at : ℕ) where
       ap (λ l. set l (i - 1) x) is ∙ ap (λ k. set (moved i) k x) down ∙ sym (ap (λ y. set (moved i) (at + j) y) source)
       ∙ paste-more xs at (drop (at + 1) xs) j x (omega arith) le ∙ sym (ap (λ k. paste xs at (drop (at + 1) xs) k) more)
 
-  pub moved-all : (n : ℕ) → at < n → n ≤ length xs → moved n ≡ struck at n xs
-  moved-all n lt le =
+  pub moved-all : (n : ℕ) → at < n → moved n ≡ struck at n xs
+  moved-all n lt =
       let front : take at (take n xs) ≡ take at xs = take-take at n xs (omega arith) in
       let middle : drop (suc at) (take n xs) ≡ take (n - (at + 1)) (drop (at + 1) xs) =
       (let s : suc at ≡ at + 1 = omega arith in ap (λ k. drop k (take n xs)) s ∙ sym (between-is xs (at + 1) n)) in
       let last : at + (n - (at + 1)) ≡ n - 1 = omega arith in
-      rw (length-take-le n xs le, front, middle, ← last)
+      rw (front, middle, ← last)
+
+  -- what the first n places hold then
+  module _ (n : ℕ) (lt : at < n) (le : n ≤ length xs) where
+    one-fewer : length (removed (take n xs) at) ≡ n - 1
+    one-fewer = let long = length-take-le n xs le in omega (arith, length-removed (take n xs) at (omega arith))
+
+    pub held-removed : held (n - 1) (struck at n xs) ≡ removed (held n xs) at
+    held-removed = take-at (removed (take n xs) at) (drop (n - 1) xs) (n - 1) one-fewer
+
+    pub length-struck : length (struck at n xs) ≡ length xs
+    length-struck = let few = one-fewer in length-append (removed (take n xs) at) (drop (n - 1) xs) ∙ omega (arith, length-drop (n - 1) xs)
 
 module _ {R : Type 0} (n : ℕ) (xs : List R) where
   -- a count past the last place
@@ -67,8 +77,8 @@ module _ {R : Type 0} (n : ℕ) (xs : List R) where
   pub held-used : held (length (held n xs)) xs ≡ held n xs
   held-used = ap (λ m. held m xs) (length-take n xs) ∙ held-within
 
-  pub struck-used : (at : ℕ) (l ys : List R) → l ≡ held n xs → ys ≡ struck at (length l) xs → ys ≡ struck at n xs
-  struck-used at l ys e is = is ∙ rw e (ap (λ t. removed t at ++ drop (length t - 1) xs) held-used)
+  pub used-within : length (held n xs) ≤ length xs
+  used-within = simp length-take (omega arith)
 
   pub length-places-added : (x : R) → length (places-added x n xs) ≡ length xs
   length-places-added x = cond-both (ltb n (length xs)) (set xs n x) xs (λ l. length l ≡ length xs) (λ e. length-set xs n x) (λ e. refl)
@@ -77,27 +87,17 @@ module _ {R : Type 0} (n : ℕ) (xs : List R) where
   pub held-added : (x : R) → n < length xs → held (count-added n xs) (places-added x n xs) ≡ held n xs ++ (x ∷ [])
   held-added x lt = rw (lt-ltb n (length xs) lt) (take-more-set xs n x lt)
 
-  -- the records in use, with one fewer
-  module _ (at : ℕ) (lt : at < length (held n xs)) where
-    one-fewer : length (removed (held n xs) at) ≡ length (held n xs) - 1
-    one-fewer = omega (arith, length-removed (held n xs) at lt)
-
-    pub held-removed : held (length (held n xs) - 1) (struck at n xs) ≡ removed (held n xs) at
-    held-removed = take-at (removed (held n xs) at) (drop (length (held n xs) - 1) xs) (length (held n xs) - 1) one-fewer
-
-    pub length-struck : length (struck at n xs) ≡ length xs
-    length-struck =
-        let few = one-fewer in
-        length-append (removed (held n xs) at) (drop (length (held n xs) - 1) xs) ∙ omega (arith, length-drop (length (held n xs) - 1) xs, length-take n xs)
-
   module _ (f : R → ℕ) (k : ℕ) where
-    pub held-found : (at : ℕ) → place-of f k (held n xs) ≡ Some at → held (length (held n xs) - 1) (struck at n xs) ≡ without f k (held n xs)
-    held-found at e = held-removed at (place-within f k (held n xs) at e) ∙ removed-without f k (held n xs) at e
+    -- the records in use, with one fewer
+    pub held-found : (at : ℕ) → place-of f k (held n xs) ≡ Some at → held (length (held n xs) - 1) (struck at (length (held n xs)) xs) ≡ without f k (held n xs)
+    held-found at e =
+        let lt = place-within f k (held n xs) at e in
+        held-removed xs at (length (held n xs)) lt used-within ∙ ap (λ l. removed l at) held-used ∙ removed-without f k (held n xs) at e
 
-    -- the law of a strike, for the count and the places that it leaves
-    pub struck-found : (at m : ℕ) (ys : List R) → m ≡ length (held n xs) - 1 → ys ≡ struck at n xs → place-of f k (held n xs) ≡ Some at → Struck f k (held n xs) (held m ys)
-    struck-found at m ys few is e =
-        let same : held m ys ≡ without f k (held n xs) = rw (few, is) (held-found at e) in
+    -- the law of a strike, for the places that it leaves
+    pub struck-found : (at m : ℕ) (ys : List R) → m ≡ length (held n xs) → ys ≡ struck at m xs → place-of f k (held n xs) ≡ Some at → Struck f k (held n xs) (held (m - 1) ys)
+    struck-found at m ys used is e =
+        let same : held (m - 1) ys ≡ without f k (held n xs) = rw (is, used) (held-found at e) in
         subst (λ l. Struck f k (held n xs) l) (sym same) (struck-without f k (held n xs))
 
     pub held-struck : held (count-struck f k n xs) (places-struck f k n xs) ≡ without f k (held n xs)
@@ -114,7 +114,7 @@ module _ {R : Type 0} (n : ℕ) (xs : List R) where
     length-places-struck =
         elim (cases-option (place-of f k (held n xs))) [
           | inl e ↦ rw e
-          | inr s ↦ rw (s .1) (length-struck (s .0) (place-within f k (held n xs) (s .0) (s .1)))
+          | inr s ↦ rw (s .1) (length-struck xs (s .0) (length (held n xs)) (place-within f k (held n xs) (s .0) (s .1)) used-within)
         ]
 
   module _ (f : R → ℕ) (x : R) (lt : n < length xs) where

@@ -1,6 +1,6 @@
 -- What a register holds in the places lent to it, and what each call makes of them.
 -- `f` tells a record's number, `n` is how many places are in use, `xs` is what the places contain.
-use mathlib.Core.Bool.{Bool, true, false, not, _&&_, cond}
+use mathlib.Core.Bool.{Bool, true, not, _&&_, cond}
 use mathlib.Core.List.{List, [], _∷_, _++_}
 use Prim.Native.Nat.{ℕ, suc, _+_, _-_}
 use lib.Dec.{eqb, ltb}
@@ -12,6 +12,10 @@ use Rattle.std.specs.declared.option.Option.the-variants.{Some, None}
 use Rattle.std.specs.declared.result.Result.{Result}
 use Rattle.std.specs.declared.result.Result.the-variants.{Ok, Err}
 use Rattle.register.specs.declared.Full.{Full}
+
+-- the one refusal
+abbrev pub all-taken : Full
+all-taken = record {}
 
 -- the same place, seen from one place further ahead
 abbrev pub one-on : Option ℕ → Option ℕ
@@ -45,7 +49,7 @@ module _ {R : Type 0} where
 
   -- adding: the answer, the count and the places afterwards
   abbrev pub adding : ℕ → List R → Result (Unit {0}) Full
-  adding n xs = cond (ltb n (length xs)) (Ok tt) (Err (record {}))
+  adding n xs = cond (ltb n (length xs)) (Ok tt) (Err all-taken)
 
   abbrev pub count-added : ℕ → List R → ℕ
   count-added n xs = cond (ltb n (length xs)) (n + 1) n
@@ -53,9 +57,9 @@ module _ {R : Type 0} where
   abbrev pub places-added : R → ℕ → List R → List R
   places-added x n xs = cond (ltb n (length xs)) (set xs n x) xs
 
-  -- the records in use behind `at` move down one place; the place behind the last keeps what it has, and so do those not in use
+  -- of the first n places, what stands behind `at` moves down by one; the last of them and all places behind keep what they have
   abbrev pub struck : ℕ → ℕ → List R → List R
-  struck at n xs = removed (held n xs) at ++ drop (length (held n xs) - 1) xs
+  struck at n xs = removed (take n xs) at ++ drop (n - 1) xs
 
   abbrev pub struck-at : Option ℕ → ℕ → List R → List R
   struck-at None n xs = xs
@@ -66,4 +70,4 @@ module _ {R : Type 0} where
   count-struck f k n xs = cond (isSome (record-of f k (held n xs))) (length (held n xs) - 1) n
 
   abbrev pub places-struck : (R → ℕ) → ℕ → ℕ → List R → List R
-  places-struck f k n xs = struck-at (place-of f k (held n xs)) n xs
+  places-struck f k n xs = struck-at (place-of f k (held n xs)) (length (held n xs)) xs

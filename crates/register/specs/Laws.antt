@@ -9,7 +9,7 @@ use Rattle.std.specs.declared.option.Option.the-variants.{Some, None}
 use Rattle.std.specs.declared.result.Result.{Result}
 use Rattle.std.specs.declared.result.Result.the-variants.{Ok, Err}
 use Rattle.register.specs.declared.Full.{Full}
-use Rattle.register.specs.Held.{held, record-of, without, unrepeated}
+use Rattle.register.specs.Held.{all-taken, held, record-of, without, unrepeated}
 
 module _ {R : Type 0} where
   -- nothing changed
@@ -37,7 +37,7 @@ module _ {R : Type 0} where
 
   -- refused when every place is taken, and only then
   abbrev pub RefusedWhenFull : Result (Unit {0}) Full → ℕ → List R → Type 0
-  RefusedWhenFull r n xs = (r ≡ Err (record {}) → length xs ≤ n) × (length xs ≤ n → r ≡ Err (record {}))
+  RefusedWhenFull r n xs = (r ≡ Err all-taken → length xs ≤ n) × (length xs ≤ n → r ≡ Err all-taken)
 
   -- the others stay in their order; if no number was repeated, this one is found no more and none is repeated now
   abbrev pub Struck : (R → ℕ) → ℕ → List R → List R → Type 0

@@ -20,6 +20,7 @@ pub trait Numbered: Copy {
 #[derive(Clone, Copy)]
 pub struct Full;
 
+// How many of the places are in use: the first ones.
 #[derive(Clone, Copy)]
 pub struct Register {
     count: usize,
@@ -35,7 +36,7 @@ impl Register {
     pub fn count(&self) -> usize
         ensures { λ r. ⌜ r ≡ now (self .entry) .count ⌝ }
     {
-        self.count
+        self.count // only `add` and `strike` change it
     }
 
     // The record with the number, copied out.
@@ -70,37 +71,29 @@ impl Register {
         ensures places { λ _. ⌜ now (places .exit) ≡ places-struck numbered number (now (self .entry) .count) (now (places .entry)) ⌝ }
         ensures found { λ r. ⌜ StruckOrKept numbered number r (now (self .entry) .count) (now (places .entry)) (now (self .exit) .count) (now (places .exit)) ⌝ }
     {
-        match place_of(self.in_use(places), number) {
+        let records = self.in_use(places);
+        let used = records.len();
+        match place_of(records, number) {
             Some(at) => {
-                self.take_out(places, at);
+                close_gap(places, at, used);
+                self.count = used - 1;
                 true
             }
             None => false,
         }
     }
 
-    // Takes the record at a place in use out; those behind it move down.
-    fn take_out<R: Numbered>(&mut self, places: &mut [R], at: usize)
-        requires { ⌜ at < length (held (now self .count) (now places)) ⌝ }
-        ensures count { λ _. ⌜ now (self .exit) .count ≡ length (held (now (self .entry) .count) (now (places .entry))) - 1 ⌝ }
-        ensures places { λ _. ⌜ now (places .exit) ≡ struck at (now (self .entry) .count) (now (places .entry)) ⌝ }
-        ensures found { λ _. ⌜ ((k : ℕ) → place-of numbered k (held (now (self .entry) .count) (now (places .entry))) ≡ Some at → Struck numbered k (held (now (self .entry) .count) (now (places .entry))) (held (now (self .exit) .count) (now (places .exit)))) ⌝ }
-    {
-        let used = self.in_use(places).len();
-        close_gap(places, at, used);
-        self.count = used - 1;
-    }
-
     // The records in use; a count past the last place means all of them.
     fn in_use<'a, R>(&self, places: &'a [R]) -> &'a [R]
-        ensures { λ r. ⌜ now r ≡ held (now (self .entry) .count) (now (places .entry)) ⌝ }
+        ensures records { λ r. ⌜ now r ≡ held (now (self .entry) .count) (now (places .entry)) ⌝ }
+        ensures within { λ r. ⌜ length (now r) ≤ length (now (places .entry)) ⌝ }
     {
         let used = self.count.min(places.len());
         &places[0..used]
     }
 }
 
-// Writes the record into the place behind the first `at`.
+// Writes the record behind the first `at` records.
 fn put<R: Numbered>(places: &mut [R], at: usize, item: R)
     requires { ⌜ at < length (now places) ⌝ }
     ensures places { λ _. ⌜ now (places .exit) ≡ set (now (places .entry)) at item ⌝ }
@@ -110,10 +103,11 @@ fn put<R: Numbered>(places: &mut [R], at: usize, item: R)
     places[at] = item;
 }
 
-// Moves what stands behind `at` down one place, as far as `end`.
-fn close_gap<R: Copy>(places: &mut [R], at: usize, end: usize)
+// Moves what stands behind `at` down one place, up to `end`.
+fn close_gap<R: Numbered>(places: &mut [R], at: usize, end: usize)
     requires { ⌜ at < end ⌝ ∗ ⌜ end ≤ length (now places) ⌝ }
-    ensures { λ _. ⌜ now (places .exit) ≡ struck at end (now (places .entry)) ⌝ }
+    ensures places { λ _. ⌜ now (places .exit) ≡ struck at end (now (places .entry)) ⌝ }
+    ensures found { λ _. ⌜ ((n k : ℕ) → end ≡ length (held n (now (places .entry))) → place-of numbered k (held n (now (places .entry))) ≡ Some at → Struck numbered k (held n (now (places .entry))) (held (end - 1) (now (places .exit)))) ⌝ }
 {
     for i in at + 1..end {
         places[i - 1] = places[i];

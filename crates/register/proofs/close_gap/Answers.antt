@@ -1,6 +1,6 @@
 use mathlib.Core.Path.{ap, _∙_}
 use native.Mathlib.Omega.{arith}
-use Rattle.register.proofs.Places.{moved, moved-none, moved-more, moved-all}
+use Rattle.register.proofs.Places.{moved, moved-none, moved-more, moved-all, struck-found}
 use Rattle.register.proofs.close_gap.Needs as need
 
 pub loop-i-holds : need.loop-i-holds
@@ -13,5 +13,7 @@ loop-i-again g c =
 
 pub returns : need.returns
 returns g c =
+    let is =
     c .loop-i .inv ∙ ap (moved (c .args .places .now) (c .args .at)) (omega arith)
-    ∙ moved-all (c .args .places .now) (c .args .at) (c .args .end) (omega arith) (omega arith)
+    ∙ moved-all (c .args .places .now) (c .args .at) (c .args .end) (omega arith) in
+    record { places = is; found = λ n k used e. struck-found n (c .args .places .now) (g .R·Numbered .numbered) k (c .args .at) (c .args .end) (c .loop-i .places) used is e }
