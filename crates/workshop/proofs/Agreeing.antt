@@ -1,19 +1,22 @@
 -- What is printed in a column is read again, and nothing else is read as that number.
-use mathlib.Core.Path.{_≡_, sym, ap, _∙_}
+use mathlib.Core.Path.{refl, _≡_, sym, ap, _∙_}
 use mathlib.Core.Bool.{true}
-use mathlib.Core.List.{List, [], _∷_}
+use mathlib.Core.List.{List, [], _∷_, _++_, append-assoc, map}
 use mathlib.Core.Logic.{inl, inr, _≢_}
 use Prim.Native.Nat.{ℕ, zero, suc, _+_, _-_, _*_, _/_, _%_, _^_, _<_, _≤_}
 use native.Mathlib.Nat.{pow-suc, div-div-eq-div-mul, div-lt-iff-lt-mul, div-one, le-div-iff-mul-le, one-le-pow}
 use native.Mathlib.Omega.{arith}
 use lib.Dec.{eqb, leb, lit<}
 use lib.IntN.{pos, negsuc}
-use lib.ListN.{length}
+use lib.ListN.{length, take, drop, length-append}
 use Rattle.std.proofs.shelf.Tests.{cases-bool, cases-lt, cases-eq, eqb-true, eqb-false, ne-eqb, le-leb, leb-true, lt-ltb, le-ltb, and-parts, and-from}
-use Rattle.std.specs.Options.{mapped}
+use Rattle.std.specs.Options.{mapped, okOr}
+use Rattle.std.specs.shelf.Lists.{All, between, joined}
+use Rattle.std.proofs.shelf.Lists.{drop-at}
 use Rattle.std.specs.declared.option.Option.{Option}
 use Rattle.std.specs.declared.option.Option.the-variants.{Some, None}
-use Rattle.workshop.specs.Columns.{Columns-agree, column-of, digit-at, digits-after, is-digit, natural-in, negative, number-in, signed-in, zero-then}
+use Rattle.std.specs.declared.result.Result.the-variants.{Ok}
+use Rattle.workshop.specs.Columns.{Columns-agree, column-of, digit-at, digits-after, field-at, is-digit, natural-in, negative, number-in, number-then, numbers-behind, numbers-in, signed-in, zero-then}
 
 -- a number printed at the right of k places and one
 wide : ℕ → ℕ → List ℕ
@@ -181,3 +184,23 @@ only-column n (b ∷ bs) long is =
 pub columns-agree : Columns-agree
 unfolding wide
 columns-agree n small = (number-read 5 n (omega arith), only-column n)
+
+-- columns side by side are read again, in their order
+columns-behind : (i : ℕ) (front : List ℕ) (ns : List ℕ) → length front ≡ 6 * i → All (λ n. n ≤ 999999) ns →
+    numbers-behind i (length ns) (front ++ joined column-of ns) ≡ Ok (map pos ns)
+unfolding numbers-behind
+columns-behind i front [] long small = refl
+columns-behind i front (n ∷ ns) long (first, small) =
+    let six : 6 * i + 6 - 6 * i ≡ 6 = omega arith in
+    let bytes : List ℕ = front ++ joined column-of (n ∷ ns) in
+    let field : between (6 * i) (6 * i + 6) bytes ≡ column-of n =
+    ap (λ k. take k (drop (6 * i) bytes)) six ∙ ap (take 6) (drop-at front (joined column-of (n ∷ ns)) (6 * i) long) in
+    let here : field-at i bytes ≡ Ok (pos n) = ap (λ f. okOr (number-in f) (record { field = i + 1 })) field
+    ∙ ap (λ o. okOr o (record { field = i + 1 })) (columns-agree n first .0) in
+    let behind : numbers-behind (suc i) (length ns) bytes ≡ Ok (map pos ns) =
+    ap (numbers-behind (suc i) (length ns)) (sym (append-assoc front (column-of n) (joined column-of ns)))
+    ∙ columns-behind (suc i) (front ++ column-of n) ns (simp length-append (omega arith)) small in
+    ap (λ r. number-then r (numbers-behind (suc i) (length ns) bytes)) here ∙ ap (number-then (Ok (pos n))) behind
+
+pub columns-read : (ns : List ℕ) → All (λ n. n ≤ 999999) ns → numbers-in (length ns) (joined column-of ns) ≡ Ok (map pos ns)
+columns-read ns small = columns-behind 0 [] ns refl small

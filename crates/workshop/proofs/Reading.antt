@@ -9,15 +9,13 @@ use native.Mathlib.Omega.{arith}
 use lib.Dec.{leb, lit<}
 use lib.IntN.{ℤ}
 use lib.ListN.{length, getD, set, take, drop}
-use Rattle.std.proofs.shelf.Lists.{take-rest, take-all, take-more-set, drop-drop, at-drop-more}
+use Rattle.std.proofs.shelf.Lists.{take-rest, take-all, take-more-set, at-drop-more}
 use Rattle.std.proofs.shelf.Tests.{eq-eqb, ne-eqb, leb-true, and-parts}
-use Rattle.std.specs.shelf.Lists.{between}
-use Rattle.std.specs.declared.option.Option.{Option}
-use Rattle.std.specs.declared.option.Option.the-variants.{Some, None}
+use Rattle.std.specs.declared.option.Option.the-variants.{None}
 use Rattle.std.specs.declared.result.Result.{Result}
 use Rattle.std.specs.declared.result.Result.the-variants.{Ok, Err}
 use Rattle.workshop.specs.declared.columns.IllFormed.{IllFormed}
-use Rattle.workshop.specs.Columns.{behind-spaces, digits-after, field-then, fields-from, is-digit, natural-in, negative, number-in, signed-in}
+use Rattle.workshop.specs.Columns.{behind-spaces, digits-after, field-at, is-digit, natural-in, negative, number-then, numbers-behind, numbers-in, signed-in}
 
 pub spaces-more : (bs : List ℕ) → getD bs 0 0 ≡ 32 →
     behind-spaces (take (length bs - 1) (drop 1 bs)) ≡ behind-spaces bs
@@ -59,47 +57,36 @@ before-none : (r : Result (List ℤ) IllFormed) → before [] r ≡ r
 before-none (Ok ms) = refl
 before-none (Err e) = refl
 
-before-push : (ns : List ℤ) (k : ℕ) (n : ℤ) (r : Result (List ℤ) IllFormed) →
-    before ns (field-then k (Some n) r) ≡ before (ns ++ n ∷ []) r
-before-push ns k n (Ok ms) = ap Ok (sym (append-assoc ns (n ∷ []) ms))
-before-push ns k n (Err e) = refl
+before-push : (ns : List ℤ) (n : ℤ) (r : Result (List ℤ) IllFormed) →
+    before ns (number-then (Ok n) r) ≡ before (ns ++ n ∷ []) r
+before-push ns n (Ok ms) = ap Ok (sym (append-assoc ns (n ∷ []) ms))
+before-push ns n (Err e) = refl
 
 module _ (n : ℕ) (bs : List ℕ) where
   -- what is left to read behind i fields, after the numbers of those
   abbrev pub left-after : ℕ → List ℤ → Result (List ℤ) IllFormed
-  left-after i ns = before (take i ns) (fields-from (i + 1) (n - i) (drop (6 * i) bs))
+  left-after i ns = before (take i ns) (numbers-behind i (n - i) bs)
 
-  pub left-all : left-after 0 [] ≡ fields-from 1 n bs
-  left-all = before-none _ ∙ ap (λ k. fields-from 1 k bs) (omega arith)
+  pub left-all : left-after 0 [] ≡ numbers-in n bs
+  left-all = before-none _ ∙ ap (λ k. numbers-behind 0 k bs) (omega arith)
 
   pub left-none : (i : ℕ) (ns : List ℤ) → n ≤ i → length ns ≡ n → left-after i ns ≡ Ok ns
-  unfolding fields-from
+  unfolding numbers-behind
   left-none i ns le long =
       let none : n - i ≡ 0 = omega arith in
       rw (none, append-nil) (ap Ok (take-all i ns (omega arith)))
 
-  module _ (i : ℕ) (lt : i < n) where
-    next : fields-from (i + 1) (n - i) (drop (6 * i) bs)
-        ≡ field-then (i + 1) (number-in (between (6 * i) (6 * i + 6) bs))
-        (fields-from (i + 1 + 1) (n - (i + 1)) (drop (6 * (i + 1)) bs))
-    unfolding fields-from
+  module _ (i : ℕ) (ns : List ℤ) (lt : i < n) (o : Result ℤ IllFormed) (is : o ≡ field-at i bs) where
+    next : left-after i ns ≡ before (take i ns) (number-then o (numbers-behind (i + 1) (n - (i + 1)) bs))
+    unfolding numbers-behind
     next =
         let some : n - i ≡ suc (n - (i + 1)) = omega arith in
-        let six : 6 * i + 6 - 6 * i ≡ 6 = omega arith in
-        let on : drop 6 (drop (6 * i) bs) ≡ drop (6 * (i + 1)) bs =
-        drop-drop 6 (6 * i) bs ∙ ap (λ k. drop k bs) (omega arith) in
-        rw (some, six, on, add-one (i + 1))
+        rw (some, is, add-one i)
 
-    module _ (ns : List ℤ) (o : Option ℤ) (is : o ≡ number-in (between (6 * i) (6 * i + 6) bs)) where
-      left-at : left-after i ns ≡ before (take i ns)
-          (field-then (i + 1) o (fields-from (i + 1 + 1) (n - (i + 1)) (drop (6 * (i + 1)) bs)))
-      left-at = ap (before (take i ns)) next ∙ rw is
+  pub left-more : (i : ℕ) (ns : List ℤ) (x : ℤ) → i < n → length ns ≡ n → Ok x ≡ field-at i bs →
+      left-after (i + 1) (set ns i x) ≡ left-after i ns
+  left-more i ns x lt long is =
+      rw (take-more-set ns i x (omega arith)) (sym (next i ns lt (Ok x) is ∙ before-push (take i ns) x _))
 
-    pub left-more : (ns : List ℤ) (x : ℤ) → length ns ≡ n → Some x ≡ number-in (between (6 * i) (6 * i + 6) bs) →
-        left-after (i + 1) (set ns i x) ≡ left-after i ns
-    left-more ns x long is =
-        rw (take-more-set ns i x (omega arith)) (sym (left-at ns (Some x) is ∙ before-push (take i ns) (i + 1) x _))
-
-    pub left-fails : (ns : List ℤ) → None ≡ number-in (between (6 * i) (6 * i + 6) bs) →
-        left-after i ns ≡ Err (record { field = i + 1 })
-    left-fails ns is = left-at ns None is
+  pub left-fails : (i : ℕ) (ns : List ℤ) (e : IllFormed) → i < n → Err e ≡ field-at i bs → left-after i ns ≡ Err e
+  left-fails i ns e lt is = next i ns lt (Err e) is

@@ -1,14 +1,16 @@
 -- Text split at its line feeds.
 use mathlib.Core.Path.{_≡_, refl, sym, ap, _∙_}
 use mathlib.Core.Bool.{true, false, cond}
+use mathlib.Core.Logic.{inl, inr}
 use mathlib.Core.List.{List, [], _∷_, _++_}
-use Prim.Native.Nat.{ℕ, suc, _+_, _<_}
+use Prim.Native.Nat.{ℕ, suc, _+_, _-_, _<_, _≤_}
 use native.Mathlib.Omega.{arith}
 use lib.Dec.{eqb}
 use lib.ListN.{length, getD, take, drop, take-append-drop}
+use Rattle.std.specs.shelf.Lists.{joined}
 use Rattle.std.proofs.shelf.Lists.{take-more, drop-more, nil-from-length}
-use Rattle.std.proofs.shelf.Tests.{ne-eqb}
-use Rattle.workshop.specs.Lines.{line-feeds, line-with, lines-in}
+use Rattle.std.proofs.shelf.Tests.{cases-bool, cond-true, cond-false, eqb-true, lt-ltb, ne-eqb}
+use Rattle.workshop.specs.Lines.{ended, ends-line, line-feeds, line-with, lines-in}
 
 -- each line has one line feed
 pub lines-count : (bs : List ℕ) → length (lines-in bs) ≡ line-feeds bs
@@ -54,3 +56,40 @@ module _ (bs : List ℕ) (i : ℕ) (within : i < length bs) (before : line-feeds
 
   pub feed-lines : getD bs i 0 ≡ 10 → lines-in bs ≡ take i bs ∷ lines-in (drop (i + 1) bs)
   feed-lines is = ap lines-in (feed-parts is) ∙ lines-first _ _ before
+
+-- each line takes at least its line feed
+pub lines-at-most : (bs : List ℕ) → length (lines-in bs) ≤ length bs
+lines-at-most bs = rw lines-count (feeds-at-most bs)
+  where
+    feeds-at-most : (bs : List ℕ) → line-feeds bs ≤ length bs
+    feeds-at-most [] = omega arith
+    feeds-at-most (b ∷ bs) =
+        elim (eqb b 10) as (λ v. cond v (suc (line-feeds bs)) (line-feeds bs) ≤ suc (length bs)) [
+          | true ↦ omega (arith, feeds-at-most bs)
+          | false ↦ omega (arith, feeds-at-most bs)
+        ]
+
+ends-tail : (b c : ℕ) (cs : List ℕ) → ends-line (b ∷ c ∷ cs) ≡ ends-line (c ∷ cs)
+ends-tail b c cs =
+    let on : suc (suc (length cs)) - 1 ≡ suc (length cs) = omega arith in
+    let here : suc (length cs) - 1 ≡ length cs = omega arith in
+    rw (lt-ltb 0 (suc (suc (length cs))) (omega arith), lt-ltb 0 (suc (length cs)) (omega arith), on, here)
+
+with-front : (b : ℕ) (ls : List (List ℕ)) (c : ℕ) (cs : List ℕ) → joined ended ls ≡ c ∷ cs → joined ended (line-with b ls) ≡ b ∷ c ∷ cs
+with-front b [] c cs is = cc
+with-front b (l ∷ ls) c cs is = ap (λ t. b ∷ t) is
+
+-- text that ends in a line feed is its lines, each with its line feed
+pub lines-whole : (bs : List ℕ) → ends-line bs ≡ true → joined ended (lines-in bs) ≡ bs
+lines-whole [] ends = refl
+lines-whole (b ∷ []) ends = rw ends (ap (λ d. d ∷ []) (sym (eqb-true b 10 ends)))
+lines-whole (b ∷ c ∷ cs) ends =
+    let behind = lines-whole (c ∷ cs) (sym (ends-tail b c cs) ∙ ends) in
+    let lines = lines-in (c ∷ cs) in
+    elim (cases-bool (eqb b 10)) [
+      | inl feed ↦
+          ap (joined ended) (cond-true (eqb b 10) ([] ∷ lines) (line-with b lines) feed)
+          ∙ ap (λ t. 10 ∷ t) behind ∙ ap (λ d. d ∷ c ∷ cs) (sym (eqb-true b 10 feed))
+      | inr other ↦
+          ap (joined ended) (cond-false (eqb b 10) ([] ∷ lines) (line-with b lines) other) ∙ with-front b lines c cs behind
+    ]

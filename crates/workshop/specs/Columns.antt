@@ -5,8 +5,9 @@ use mathlib.Core.List.{List, [], _∷_}
 use Prim.Native.Nat.{ℕ, zero, suc, _+_, _-_, _*_, _/_, _%_, _≤_}
 use lib.Dec.{eqb, leb, ltb}
 use lib.IntN.{ℤ, pos, negℤ}
-use lib.ListN.{length, take, drop}
-use Rattle.std.specs.Options.{mapped}
+use lib.ListN.{length}
+use Rattle.std.specs.Options.{mapped, okOr}
+use Rattle.std.specs.shelf.Lists.{between}
 use Rattle.std.specs.declared.option.Option.{Option}
 use Rattle.std.specs.declared.option.Option.the-variants.{Some, None}
 use Rattle.std.specs.declared.result.Result.{Result}
@@ -41,6 +42,7 @@ abbrev pub negative : Option ℕ → Option ℤ
 negative None = None
 negative (Some n) = cond (eqb n 0) None (Some (negℤ (pos n)))
 
+-- a minus, directly before its digits, or digits alone
 abbrev pub signed-in : List ℕ → Option ℤ
 signed-in [] = None
 signed-in (b ∷ bs) = cond (eqb b 45) (negative (natural-in bs)) (mapped pos (natural-in (b ∷ bs)))
@@ -49,19 +51,23 @@ signed-in (b ∷ bs) = cond (eqb b 45) (negative (natural-in bs)) (mapped pos (n
 abbrev pub number-in : List ℕ → Option ℤ
 number-in bytes = signed-in (behind-spaces bytes)
 
--- the number of the k-th field before those of the fields behind it
-abbrev pub field-then : ℕ → Option ℤ → Result (List ℤ) IllFormed → Result (List ℤ) IllFormed
-field-then k None rest = Err (record { field = k })
-field-then k (Some n) (Ok ns) = Ok (n ∷ ns)
-field-then k (Some n) (Err e) = Err e
+-- the number of the field behind i others; or that the field, counted from 1, is ill-formed
+abbrev pub field-at : ℕ → List ℕ → Result ℤ IllFormed
+field-at i bytes = okOr (number-in (between (6 * i) (6 * i + 6) bytes)) (record { field = i + 1 })
 
--- the numbers of so many fields, the first of them the k-th; or the first that is ill-formed
-unfoldable pub fields-from : ℕ → ℕ → List ℕ → Result (List ℤ) IllFormed
-fields-from k zero bytes = Ok []
-fields-from k (suc n) bytes = field-then k (number-in (take 6 bytes)) (fields-from (suc k) n (drop 6 bytes))
+-- a number before those behind it
+abbrev pub number-then : Result ℤ IllFormed → Result (List ℤ) IllFormed → Result (List ℤ) IllFormed
+number-then (Err e) rest = Err e
+number-then (Ok n) (Err e) = Err e
+number-then (Ok n) (Ok ns) = Ok (n ∷ ns)
+
+-- the numbers of n fields behind i others; or the first field that is ill-formed
+unfoldable pub numbers-behind : ℕ → ℕ → List ℕ → Result (List ℤ) IllFormed
+numbers-behind i zero bytes = Ok []
+numbers-behind i (suc n) bytes = number-then (field-at i bytes) (numbers-behind (suc i) n bytes)
 
 abbrev pub numbers-in : ℕ → List ℕ → Result (List ℤ) IllFormed
-numbers-in n bytes = fields-from 1 n bytes
+numbers-in n bytes = numbers-behind 0 n bytes
 
 -- the digit of a weight, a space where the number does not reach it
 abbrev pub digit-at : ℕ → ℕ → ℕ

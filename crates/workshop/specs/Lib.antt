@@ -6,3 +6,4 @@ pub mod Faults
 pub mod Acts
 pub mod Stages
 pub mod Report
+pub mod Shape

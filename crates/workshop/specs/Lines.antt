@@ -1,6 +1,6 @@
 -- Text split into lines, each of which a line feed ends.
 use mathlib.Core.Bool.{Bool, cond, _&&_}
-use mathlib.Core.List.{List, [], _∷_}
+use mathlib.Core.List.{List, [], _∷_, _++_}
 use Prim.Native.Nat.{ℕ, suc, _-_}
 use lib.Dec.{eqb, ltb}
 use lib.ListN.{length, getD}
@@ -23,3 +23,7 @@ line-feeds (b ∷ bs) = cond (eqb b 10) (suc (line-feeds bs)) (line-feeds bs)
 -- there are bytes, and the last is a line feed
 abbrev pub ends-line : List ℕ → Bool
 ends-line bytes = ltb 0 (length bytes) && eqb (getD bytes (length bytes - 1) 0) 10
+
+-- a line with its line feed
+abbrev pub ended : List ℕ → List ℕ
+ended line = line ++ 10 ∷ []

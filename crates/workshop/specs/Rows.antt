@@ -11,5 +11,6 @@ abbrev pub row-numbers : Row → List ℕ
 row-numbers r =
     r .line ∷ r .answer ∷ getD (r .details) 0 0 ∷ getD (r .details) 1 0 ∷ getD (r .details) 2 0 ∷ r .sheet ∷ []
 
+-- a row printed: its columns and a line feed
 unfoldable pub row-bytes : Row → List ℕ
 row-bytes r = joined column-of (row-numbers r) ++ 10 ∷ []

@@ -1,9 +1,8 @@
 // Numbers in columns of six bytes, read and printed.
 ghost use Prim.Native.Nat.{_*_, _+_, _<_, _≤_};
 ghost use Rattle.std.specs.Slices.{found};
-ghost use Rattle.std.specs.shelf.Lists.{between};
 ghost use Rattle.std.specs.declared.option.Option.the-variants.{Some};
-ghost use Rattle.workshop.specs.Columns.{behind-spaces, column-of, digit-at, digits-after, natural-in, negative, number-in, numbers-in, signed-in};
+ghost use Rattle.workshop.specs.Columns.{behind-spaces, column-of, digit-at, digits-after, field-at, natural-in, negative, number-in, numbers-in, signed-in};
 ghost use lib.ListN.{length};
 ghost use mathlib.Core.Path.{_≡_};
 
@@ -23,20 +22,20 @@ pub(crate) fn numbers<const N: usize>(columns: &[u8]) -> Result<[i32; N], IllFor
 {
     let mut numbers = [0; N];
     for i in 0..N {
-        match number_at(columns, i) {
-            Some(number) => numbers[i] = number,
-            None => return Err(IllFormed { field: i as u8 + 1 }),
-        }
+        numbers[i] = number_at(columns, i)?;
     }
     Ok(numbers)
 }
 
 // The number of the field behind so many others.
-fn number_at(columns: &[u8], others: usize) -> Option<i32>
+fn number_at(columns: &[u8], others: usize) -> Result<i32, IllFormed>
     requires { ⌜ others ≤ 10 ⌝ ∗ ⌜ 6 * others + 6 ≤ length (now columns) ⌝ }
-    ensures { λ r. ⌜ r ≡ number-in (between (6 * others) (6 * others + 6) (now (columns .entry))) ⌝ }
+    ensures { λ r. ⌜ r ≡ field-at others (now (columns .entry)) ⌝ }
 {
-    number(&columns[WIDTH * others..WIDTH * others + WIDTH])
+    let field = &columns[WIDTH * others..WIDTH * others + WIDTH];
+    number(field).ok_or(IllFormed {
+        field: others as u8 + 1,
+    })
 }
 
 fn number(field: &[u8]) -> Option<i32>

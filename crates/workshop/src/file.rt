@@ -1,12 +1,14 @@
 ghost use mathlib.Core.Path.{_≡_};
 ghost use Prim.Native.Nat.{_≤_};
-ghost use mathlib.Core.List.{_++_};
+ghost use mathlib.Core.List.{[], _++_};
 ghost use lib.ListN.{length};
 ghost use Rattle.std.specs.Of.Vec.{vec-items};
 ghost use Rattle.std.specs.Vec.{made};
 ghost use Rattle.std.specs.shelf.Lists.{joined};
 ghost use Rattle.workshop.specs.Rows.{row-bytes};
+ghost use Rattle.workshop.specs.Columns.{Columns-agree};
 ghost use Rattle.workshop.specs.Lines.{lines-in};
+ghost use Rattle.workshop.specs.Shape.{Reports-shaped};
 ghost use Rattle.workshop.specs.Stages.{start};
 ghost use Rattle.workshop.specs.Report.{row-of, file-gate, rows-from, report-of};
 use crate::faults::Fault;
@@ -22,14 +24,25 @@ pub const LONGEST: usize = 65_536;
 
 // The report of a file's bytes.
 pub fn report(heap: Global, file: &[u8]) -> Result<Vec<u8>, AllocError>
-    ensures { λ r. ⌜ made r (λ v. vec-items v ≡ report-of (now (file .entry))) ⌝ }
+    ensures bytes { λ r. ⌜ made r (λ v. vec-items v ≡ report-of (now (file .entry))) ⌝ }
+    ensures shape { λ _. ⌜ Reports-shaped ⌝ }
+    ensures columns { λ _. ⌜ Columns-agree ⌝ }
 {
-    let mut report = Vec::new(heap);
+    let mut report = begun_report(heap);
     match check_file(file) {
         Ok(()) => print_lines(file, &mut report)?,
         Err(fault) => answered(0, Err(fault)).print(&mut report)?,
     }
     Ok(report)
+}
+
+// A report without a row; what holds of every report is shown here.
+fn begun_report(heap: Global) -> Vec<u8>
+    ensures items { λ r. ⌜ vec-items r ≡ [] ⌝ }
+    ensures shape { λ _. ⌜ Reports-shaped ⌝ }
+    ensures columns { λ _. ⌜ Columns-agree ⌝ }
+{
+    Vec::new(heap)
 }
 
 fn check_file(file: &[u8]) -> Result<(), Fault>
