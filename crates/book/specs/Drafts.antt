@@ -10,12 +10,12 @@ use Rattle.std.specs.Options.{isSome}
 use Rattle.std.specs.Results.{isOk}
 use Rattle.register.specs.declared.Full.{Full as NoPlace}
 use Rattle.parts.specs.declared.limits.OutOfLimits.{OutOfLimits as LimitFault}
-use Rattle.parts.specs.declared.records.Plate.{Plate}
-use Rattle.parts.specs.declared.records.BoltGroup.{BoltGroup}
-use Rattle.parts.specs.declared.records.Weld.{Weld}
-use Rattle.parts.specs.declared.entries.PlateEntry.{PlateEntry}
-use Rattle.parts.specs.declared.entries.BoltGroupEntry.{BoltGroupEntry}
-use Rattle.parts.specs.declared.entries.WeldEntry.{WeldEntry}
+use Rattle.parts.specs.declared.plates.Plate.{Plate}
+use Rattle.parts.specs.declared.bolt_groups.BoltGroup.{BoltGroup}
+use Rattle.parts.specs.declared.welds.Weld.{Weld}
+use Rattle.parts.specs.declared.plates.PlateEntry.{PlateEntry}
+use Rattle.parts.specs.declared.bolt_groups.BoltGroupEntry.{BoltGroupEntry}
+use Rattle.parts.specs.declared.welds.WeldEntry.{WeldEntry}
 use Rattle.parts.specs.Limits.{mark-in, at-field}
 use Rattle.parts.specs.Entries.{plate-checked, group-checked, weld-checked}
 use Rattle.parts.specs.Numbers.{group-mark, weld-mark}

@@ -7,13 +7,13 @@ use Rattle.std.specs.declared.option.Option.{Option}
 use Rattle.std.specs.Options.{isSome}
 use Rattle.register.specs.Held.{record-of}
 use Rattle.parts.specs.Numbers.{plate-mark, group-mark, weld-mark}
-use Rattle.parts.specs.declared.bolts.BoltClass.the-variants.{C46}
-use Rattle.parts.specs.declared.bolts.BoltSize.the-variants.{M16}
-use Rattle.parts.specs.declared.steel.Grade.the-variants.{S235}
-use Rattle.parts.specs.declared.records.Plate.{Plate}
-use Rattle.parts.specs.declared.records.BoltGroup.{BoltGroup}
-use Rattle.parts.specs.declared.records.Weld.{Weld}
-use Rattle.parts.specs.declared.records.Load.{Load}
+use Rattle.stock.specs.declared.bolts.BoltClass.the-variants.{C46}
+use Rattle.stock.specs.declared.bolts.BoltSize.the-variants.{M16}
+use Rattle.stock.specs.declared.steel.Grade.the-variants.{S235}
+use Rattle.parts.specs.declared.plates.Plate.{Plate}
+use Rattle.parts.specs.declared.bolt_groups.BoltGroup.{BoltGroup}
+use Rattle.parts.specs.declared.welds.Weld.{Weld}
+use Rattle.parts.specs.declared.loads.Load.{Load}
 use Rattle.book.specs.declared.tables.Table.{Table}
 use Rattle.book.specs.declared.tables.Tables.{Tables}
 use Rattle.book.specs.declared.tables.Places.{Places}

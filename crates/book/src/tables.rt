@@ -1,7 +1,7 @@
-use parts::records::BoltGroup;
-use parts::records::Load;
-use parts::records::Plate;
-use parts::records::Weld;
+use parts::bolt_groups::BoltGroup;
+use parts::loads::Load;
+use parts::plates::Plate;
+use parts::welds::Weld;
 use register::Register;
 
 // Places for records of one kind: how many of them the book was given, and how many are in use.

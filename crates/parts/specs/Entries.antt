@@ -7,18 +7,18 @@ use Rattle.std.specs.declared.option.Option.the-variants.{Some, None}
 use Rattle.std.specs.declared.result.Result.{Result}
 use Rattle.std.specs.declared.result.Result.the-variants.{Ok, Err}
 use Rattle.parts.specs.declared.limits.OutOfLimits.{OutOfLimits}
-use Rattle.parts.specs.declared.records.Plate.{Plate}
-use Rattle.parts.specs.declared.records.BoltGroup.{BoltGroup}
-use Rattle.parts.specs.declared.records.Weld.{Weld}
-use Rattle.parts.specs.declared.entries.Make.{Make}
-use Rattle.parts.specs.declared.entries.Make.the-variants.{En, SeA}
-use Rattle.parts.specs.declared.entries.AnnexChoice.{AnnexChoice}
-use Rattle.parts.specs.declared.entries.AnnexEntry.{AnnexEntry}
-use Rattle.parts.specs.declared.entries.PlateEntry.{PlateEntry}
-use Rattle.parts.specs.declared.entries.BoltGroupEntry.{BoltGroupEntry}
-use Rattle.parts.specs.declared.entries.WeldEntry.{WeldEntry}
+use Rattle.parts.specs.declared.plates.Plate.{Plate}
+use Rattle.parts.specs.declared.bolt_groups.BoltGroup.{BoltGroup}
+use Rattle.parts.specs.declared.welds.Weld.{Weld}
+use Rattle.parts.specs.declared.annexes.Make.{Make}
+use Rattle.parts.specs.declared.annexes.Make.the-variants.{En, SeA}
+use Rattle.parts.specs.declared.annexes.AnnexChoice.{AnnexChoice}
+use Rattle.parts.specs.declared.annexes.AnnexEntry.{AnnexEntry}
+use Rattle.parts.specs.declared.plates.PlateEntry.{PlateEntry}
+use Rattle.parts.specs.declared.bolt_groups.BoltGroupEntry.{BoltGroupEntry}
+use Rattle.parts.specs.declared.welds.WeldEntry.{WeldEntry}
 use Rattle.parts.specs.Limits.{within, mark-in, other-mark, pitch-in, at-field}
-use Rattle.parts.specs.Tables.{grade-numbered, size-numbered, class-numbered}
+use Rattle.stock.specs.Tables.{grade-numbered, size-numbered, class-numbered}
 
 -- 1 is EN, 2 is SE-A
 abbrev pub make-numbered : ℤ → Option Make

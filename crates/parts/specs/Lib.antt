@@ -1,4 +1,3 @@
-pub mod Tables
 pub mod Limits
 pub mod Entries
 pub mod Numbers

@@ -1,9 +1,9 @@
 -- The number that a record bears.
 use Prim.Native.Nat.{ℕ}
-use Rattle.parts.specs.declared.records.Plate.{Plate}
-use Rattle.parts.specs.declared.records.BoltGroup.{BoltGroup}
-use Rattle.parts.specs.declared.records.Weld.{Weld}
-use Rattle.parts.specs.declared.records.Load.{Load}
+use Rattle.parts.specs.declared.plates.Plate.{Plate}
+use Rattle.parts.specs.declared.bolt_groups.BoltGroup.{BoltGroup}
+use Rattle.parts.specs.declared.welds.Weld.{Weld}
+use Rattle.parts.specs.declared.loads.Load.{Load}
 
 abbrev pub plate-mark : Plate → ℕ
 plate-mark p = p .mark

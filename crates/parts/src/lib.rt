@@ -1,8 +1,9 @@
-// The parts of a joint: the closed lists of steel grades and bolts with their tables, the records
-// of a book, and the entries as they come, with their limits.
+// The parts of a joint: the records of a book, and the entries as they come from a file, with their
+// limits.
 
-pub mod bolts;
-pub mod entries;
+pub mod annexes;
+pub mod bolt_groups;
 pub mod limits;
-pub mod records;
-pub mod steel;
+pub mod loads;
+pub mod plates;
+pub mod welds;

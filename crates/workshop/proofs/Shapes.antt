@@ -58,29 +58,34 @@ rows-numbered n s (l ∷ ls) = (row-number n (step s l .1), rows-numbered (n + 1
 answered : (file : List ℕ) → Answerable file → file-gate file ≡ Ok tt
 answered file (few, whole) =
     elim (cases-bool (ltb 65536 (length file))) [
-      inl b ↦ absurd (omega (arith, ltb-true 65536 (length file) b))
-    | inr b ↦ rw (b, whole) ]
+      | inl b ↦ absurd (omega (arith, ltb-true 65536 (length file) b))
+      | inr b ↦ rw (b, whole)
+    ]
 
 module _ (file : List ℕ) where
   -- what holds of the rows of either kind of file
   by-gate : (d : Done) → (d ≡ Ok tt → Answerable file) → (Answerable file → d ≡ Ok tt) →
-    (Answerable file → (length (map columns-of (gated-rows d file)) ≡ line-feeds file) × NumberedFrom 1 (map columns-of (gated-rows d file)))
-    × ((Answerable file → ⊥) → (length (map columns-of (gated-rows d file)) ≡ 1) × NumberedFrom 0 (map columns-of (gated-rows d file)))
-  by-gate (Ok x) to from =
-      (λ _. (rows-many (rows-from 1 start (lines-in file)) ∙ rows-per-line 1 start (lines-in file) ∙ lines-count file, rows-numbered 1 start (lines-in file)),
-      λ none. absurd (none (to refl)))
-  by-gate (Err f) to from =
-      (λ yes. let z : _≡_ {A = ℕ} 0 1 = cc (from yes) in absurd (omega arith),
-      λ _. (refl, (row-number 0 (Err f), tt)))
+      (Answerable file → (length (map columns-of (gated-rows d file)) ≡ line-feeds file) × NumberedFrom 1 (map columns-of (gated-rows d file)))
+      × ((Answerable file → ⊥) → (length (map columns-of (gated-rows d file)) ≡ 1) × NumberedFrom 0 (map columns-of (gated-rows d file)))
+  by-gate (Ok x) to from = (
+    λ _. (rows-many (rows-from 1 start (lines-in file)) ∙ rows-per-line 1 start (lines-in file) ∙ lines-count file, rows-numbered 1 start (lines-in file)),
+    λ none. absurd (none (to refl)),
+  )
+  by-gate (Err f) to from = (
+    λ yes. let z : _≡_ {A = ℕ} 0 1 = cc (from yes) in absurd (omega arith),
+    λ _. (refl, (row-number 0 (Err f), tt)),
+  )
 
   passed : file-gate file ≡ Ok tt → Answerable file
   passed e =
       elim (cases-bool (ltb 65536 (length file))) [
-        inl b ↦ let z : _≡_ {A = ℕ} 0 1 = cc (rw b at e) in absurd (omega arith)
-      | inr b ↦
-        elim (cases-bool (ends-line file)) [
-          inl w ↦ (omega (arith, ltb-false 65536 (length file) b), w)
-        | inr w ↦ let z : _≡_ {A = ℕ} 0 1 = cc (rw (b, w) at e) in absurd (omega arith) ] ]
+        | inl b ↦ let z : _≡_ {A = ℕ} 0 1 = cc (rw b at e) in absurd (omega arith)
+        | inr b ↦
+            elim (cases-bool (ends-line file)) [
+              | inl w ↦ (omega (arith, ltb-false 65536 (length file) b), w)
+              | inr w ↦ let z : _≡_ {A = ℕ} 0 1 = cc (rw (b, w) at e) in absurd (omega arith)
+            ]
+      ]
 
 pub reports-shaped : Reports-shaped
 unfolding Reports-shaped

@@ -6,11 +6,11 @@ use lib.ListN.{getD}
 use Rattle.std.specs.declared.result.Result.{Result}
 use Rattle.std.specs.declared.result.Result.the-variants.{Ok, Err}
 use Rattle.parts.specs.declared.limits.OutOfLimits.{OutOfLimits as LimitFault}
-use Rattle.parts.specs.declared.entries.AnnexChoice.{AnnexChoice}
-use Rattle.parts.specs.declared.entries.AnnexEntry.{AnnexEntry}
-use Rattle.parts.specs.declared.entries.PlateEntry.{PlateEntry}
-use Rattle.parts.specs.declared.entries.BoltGroupEntry.{BoltGroupEntry}
-use Rattle.parts.specs.declared.entries.WeldEntry.{WeldEntry}
+use Rattle.parts.specs.declared.annexes.AnnexChoice.{AnnexChoice}
+use Rattle.parts.specs.declared.annexes.AnnexEntry.{AnnexEntry}
+use Rattle.parts.specs.declared.plates.PlateEntry.{PlateEntry}
+use Rattle.parts.specs.declared.bolt_groups.BoltGroupEntry.{BoltGroupEntry}
+use Rattle.parts.specs.declared.welds.WeldEntry.{WeldEntry}
 use Rattle.parts.specs.Entries.{annex-checked}
 use Rattle.book.specs.declared.tables.Tables.{Tables}
 use Rattle.book.specs.Drafts.{Answer, plate-answer, plate-entered, group-answer, group-entered, weld-answer, weld-entered, strike-answer, struck-out}

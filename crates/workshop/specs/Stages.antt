@@ -6,7 +6,7 @@ use Rattle.std.specs.declared.option.Option.{Option}
 use Rattle.std.specs.declared.option.Option.the-variants.{Some, None}
 use Rattle.std.specs.declared.result.Result.{Result}
 use Rattle.std.specs.declared.result.Result.the-variants.{Ok, Err}
-use Rattle.parts.specs.declared.entries.AnnexChoice.{AnnexChoice}
+use Rattle.parts.specs.declared.annexes.AnnexChoice.{AnnexChoice}
 use Rattle.book.specs.declared.tables.Tables.{Tables}
 use Rattle.book.specs.declared.tables.Places.{Places}
 use Rattle.book.specs.Tables.{empty-tables}

@@ -9,11 +9,11 @@ use crate::faults::ChoiceFault;
 use crate::faults::ColumnFault;
 use crate::faults::Fault;
 use book::drafting::Drafting;
-use parts::entries::AnnexChoice;
-use parts::entries::AnnexEntry;
-use parts::entries::BoltGroupEntry;
-use parts::entries::PlateEntry;
-use parts::entries::WeldEntry;
+use parts::annexes::AnnexChoice;
+use parts::annexes::AnnexEntry;
+use parts::bolt_groups::BoltGroupEntry;
+use parts::plates::PlateEntry;
+use parts::welds::WeldEntry;
 
 // The annex that the columns choose.
 pub(crate) fn chosen_annex(columns: &[u8]) -> Result<AnnexChoice, Fault>

@@ -62,8 +62,8 @@ pub impl From<IllFormed> for Fault as ColumnFault {
 pub impl From<Refusal> for Fault as BookFault {
     ghost converts = { λ e r. r ≡ of-book e };
 
-    fn from(refusal: Refusal) -> Fault {
-        Fault::Refused(refusal)
+    fn from(cause: Refusal) -> Fault {
+        Fault::Refused(cause)
     }
 }
 

@@ -58,22 +58,18 @@ fn check_file(file: &[u8]) -> Result<(), Fault>
 }
 
 // The row of a line.
-fn answered(line: u32, answer: Result<(), Fault>) -> Row
-    ensures { λ r. ⌜ r ≡ row-of line answer ⌝ }
+fn answered(number: u32, answer: Result<(), Fault>) -> Row
+    ensures { λ r. ⌜ r ≡ row-of number answer ⌝ }
 {
-    match answer {
-        Ok(()) => Row {
-            line,
-            answer: 0,
-            details: [0, 0, 0],
-            sheet: 0,
-        },
-        Err(fault) => Row {
-            line,
-            answer: fault.number(),
-            details: fault.details(),
-            sheet: 0,
-        },
+    let (answer, details) = match answer {
+        Ok(()) => (0, [0, 0, 0]),
+        Err(fault) => (fault.number(), fault.details()),
+    };
+    Row {
+        line: number,
+        answer,
+        details,
+        sheet: 0,
     }
 }
 

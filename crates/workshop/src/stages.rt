@@ -12,7 +12,7 @@ use crate::faults::Fault;
 use crate::letters::Letter;
 use book::drafting::Drafting;
 use book::tables::Places;
-use parts::entries::AnnexChoice;
+use parts::annexes::AnnexChoice;
 
 // How far a file has come.
 #[derive(Drop)]

@@ -6,11 +6,11 @@ use crate::refusals::LimitsRefusal;
 use crate::refusals::Refusal;
 use crate::tables::Places;
 use crate::tables::Tables;
-use parts::entries::BoltGroupEntry;
-use parts::entries::PlateEntry;
-use parts::entries::WeldEntry;
+use parts::bolt_groups::BoltGroupEntry;
 use parts::limits::OutOfLimits;
 use parts::limits::mark;
+use parts::plates::PlateEntry;
+use parts::welds::WeldEntry;
 
 impl<A> Drafting<A> {
     // An empty book with so many places, to be judged by the annex.

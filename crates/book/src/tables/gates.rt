@@ -4,12 +4,12 @@ ghost use Rattle.book.specs.Drafts.{component-gates, plate-gates, plate-stored
 use crate::refusals::FullRefusal;
 use crate::refusals::Refusal;
 use crate::tables::Tables;
-use parts::records::BoltGroup;
-use parts::records::BoltGroupNumbered;
-use parts::records::Plate;
-use parts::records::PlateNumbered;
-use parts::records::Weld;
-use parts::records::WeldNumbered;
+use parts::bolt_groups::BoltGroup;
+use parts::bolt_groups::BoltGroupNumbered;
+use parts::plates::Plate;
+use parts::plates::PlateNumbered;
+use parts::welds::Weld;
+use parts::welds::WeldNumbered;
 
 impl Tables {
     // May a component of that mark join those plates?

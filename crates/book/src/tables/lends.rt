@@ -12,20 +12,20 @@ ghost use Rattle.book.specs.Tables.{empty-tables, with-plates, with-groups, wi
 use crate::tables::Places;
 use crate::tables::Table;
 use crate::tables::Tables;
-use parts::bolts::BoltClass;
-use parts::bolts::BoltSize;
-use parts::records::BoltGroup;
-use parts::records::BoltGroupNumbered;
-use parts::records::Load;
-use parts::records::LoadNumbered;
-use parts::records::Plate;
-use parts::records::PlateNumbered;
-use parts::records::Weld;
-use parts::records::WeldNumbered;
-use parts::steel::Grade;
+use parts::bolt_groups::BoltGroup;
+use parts::bolt_groups::BoltGroupNumbered;
+use parts::loads::Load;
+use parts::loads::LoadNumbered;
+use parts::plates::Plate;
+use parts::plates::PlateNumbered;
+use parts::welds::Weld;
+use parts::welds::WeldNumbered;
 use register::Full;
 use register::Numbered;
 use register::Register;
+use stock::bolts::BoltClass;
+use stock::bolts::BoltSize;
+use stock::steel::Grade;
 
 // Adds a record in the first `given` of the places.
 fn add_within<R: Numbered>(

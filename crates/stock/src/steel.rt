@@ -1,5 +1,5 @@
 ghost use mathlib.Core.Path.{_≡_};
-ghost use Rattle.parts.specs.Tables.{grade-numbered, nominal-yield, weld-correlation};
+ghost use Rattle.stock.specs.Tables.{grade-numbered, nominal-yield, weld-correlation};
 
 // A structural steel by the number of its nominal yield strength.
 #[derive(Clone, Copy)]

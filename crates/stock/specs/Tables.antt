@@ -5,12 +5,12 @@ use lib.Dec.{eqb}
 use lib.IntN.{ℤ, pos, negsuc}
 use Rattle.std.specs.declared.option.Option.{Option}
 use Rattle.std.specs.declared.option.Option.the-variants.{Some, None}
-use Rattle.parts.specs.declared.steel.Grade.{Grade}
-use Rattle.parts.specs.declared.steel.Grade.the-variants.{S235, S275, S355}
-use Rattle.parts.specs.declared.bolts.BoltSize.{BoltSize}
-use Rattle.parts.specs.declared.bolts.BoltSize.the-variants.{M16, M20, M24, M27, M30}
-use Rattle.parts.specs.declared.bolts.BoltClass.{BoltClass}
-use Rattle.parts.specs.declared.bolts.BoltClass.the-variants.{C46, C56, C68, C88, C109}
+use Rattle.stock.specs.declared.steel.Grade.{Grade}
+use Rattle.stock.specs.declared.steel.Grade.the-variants.{S235, S275, S355}
+use Rattle.stock.specs.declared.bolts.BoltSize.{BoltSize}
+use Rattle.stock.specs.declared.bolts.BoltSize.the-variants.{M16, M20, M24, M27, M30}
+use Rattle.stock.specs.declared.bolts.BoltClass.{BoltClass}
+use Rattle.stock.specs.declared.bolts.BoltClass.the-variants.{C46, C56, C68, C88, C109}
 
 -- nominal yield strength, N/mm²
 abbrev pub nominal-yield : Grade → ℕ

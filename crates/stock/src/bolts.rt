@@ -1,5 +1,5 @@
 ghost use mathlib.Core.Path.{_≡_};
-ghost use Rattle.parts.specs.Tables.{size-numbered, bolt-diameter, hole-diameter, tensile-area, class-numbered, bolt-strength};
+ghost use Rattle.stock.specs.Tables.{size-numbered, bolt-diameter, hole-diameter, tensile-area, class-numbered, bolt-strength};
 
 // A bolt by its nominal diameter.
 #[derive(Clone, Copy)]
