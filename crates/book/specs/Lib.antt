@@ -1,4 +1,6 @@
 pub mod Refusals
 pub mod Tabled
 pub mod Tables
+pub mod Order
 pub mod Drafts
+pub mod Laws

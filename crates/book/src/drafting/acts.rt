@@ -1,6 +1,7 @@
 ghost use mathlib.Core.Path.{_≡_};
 ghost use Rattle.book.specs.Tables.{empty-tables};
 ghost use Rattle.book.specs.Drafts.{plate-answer, plate-entered, group-answer, group-entered, weld-answer, weld-entered, strike-answer, struck-out};
+ghost use Rattle.book.specs.Laws.{Drafting-laws};
 use crate::drafting::Drafting;
 use crate::refusals::LimitsRefusal;
 use crate::refusals::Refusal;
@@ -12,15 +13,24 @@ use parts::limits::mark;
 use parts::plates::PlateEntry;
 use parts::welds::WeldEntry;
 
+// What a book holds when it begins; what holds of every book that is drafted is shown here.
+fn no_records(places: Places) -> Tables
+    ensures tables { λ r. ⌜ r ≡ empty-tables places ⌝ }
+    ensures laws { λ _. ⌜ Drafting-laws ⌝ }
+{
+    Tables::empty(places)
+}
+
 impl<A> Drafting<A> {
     // An empty book with so many places, to be judged by the annex.
     pub fn begin(annex: A, places: Places) -> Drafting<A>
         ensures annex { λ r. ⌜ r .annex ≡ annex ⌝ }
         ensures tables { λ r. ⌜ r .tables ≡ empty-tables places ⌝ }
+        ensures laws { λ _. ⌜ Drafting-laws ⌝ }
     {
         Drafting {
             annex,
-            tables: Tables::empty(places),
+            tables: no_records(places),
         }
     }
 

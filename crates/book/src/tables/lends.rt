@@ -176,11 +176,11 @@ impl Tables {
         ensures answer { λ r. ⌜ r ≡ isSome (record-of group-mark mark (records-in (now (self .entry) .«bolt_groups»))) ⌝ }
         ensures tables { λ _. ⌜ now (self .exit) ≡ with-groups (table-struck group-mark mark (now (self .entry) .«bolt_groups»)) (now (self .entry)) ⌝ }
     {
-        let given = self.bolt_groups.given;
+        let searched = self.bolt_groups.given;
         strike_within(
             &mut self.bolt_groups.register,
             &mut self.bolt_groups.places,
-            given,
+            searched,
             mark,
         )
     }
@@ -189,11 +189,11 @@ impl Tables {
         ensures answer { λ r. ⌜ r ≡ isSome (record-of weld-mark mark (records-in (now (self .entry) .welds))) ⌝ }
         ensures tables { λ _. ⌜ now (self .exit) ≡ with-welds (table-struck weld-mark mark (now (self .entry) .welds)) (now (self .entry)) ⌝ }
     {
-        let given = self.welds.given;
+        let searched = self.welds.given;
         strike_within(
             &mut self.welds.register,
             &mut self.welds.places,
-            given,
+            searched,
             mark,
         )
     }
