@@ -28,14 +28,7 @@ blank-group = record {
   mark = 0;
   «plate_a» = 0;
   «plate_b» = 0;
-  size = M16;
-  class = C46;
-  rows = 0;
-  columns = 0;
-  e1 = 0;
-  p1 = 0;
-  e2 = 0;
-  p2 = 0;
+  layout = record { size = M16; class = C46; rows = 0; columns = 0; e1 = 0; p1 = 0; e2 = 0; p2 = 0 };
 }
 
 abbrev pub blank-weld : Weld

@@ -18,37 +18,15 @@ fn told(answer: Result<(), Refusal>) -> (u8, u16) {
 }
 
 fn plate(mark: i32) -> PlateEntry {
-    PlateEntry {
-        mark,
-        thickness: 10,
-        grade: 275,
-    }
+    PlateEntry::new([mark, 10, 275])
 }
 
 fn group(mark: i32, plate_a: i32, plate_b: i32) -> BoltGroupEntry {
-    BoltGroupEntry {
-        mark,
-        plate_a,
-        plate_b,
-        size: 20,
-        class: 88,
-        rows: 2,
-        columns: 2,
-        e1: 40,
-        p1: 70,
-        e2: 40,
-        p2: 70,
-    }
+    BoltGroupEntry::new([mark, plate_a, plate_b, 20, 88, 2, 2, 40, 70, 40, 70])
 }
 
 fn weld(mark: i32, plate_a: i32, plate_b: i32) -> WeldEntry {
-    WeldEntry {
-        mark,
-        plate_a,
-        plate_b,
-        throat: 50,
-        length: 200,
-    }
+    WeldEntry::new([mark, plate_a, plate_b, 50, 200])
 }
 
 fn places(plates: usize, bolt_groups: usize, welds: usize) -> Places {

@@ -6,73 +6,29 @@ use parts::plates::PlateEntry;
 use parts::welds::WeldEntry;
 use std::test::*;
 
-fn annex_fault([make, gamma_m0, gamma_m2]: [i32; 3]) -> u8 {
-    let entry = AnnexEntry {
-        make,
-        gamma_m0,
-        gamma_m2,
-    };
-    match entry.checked() {
+fn annex_fault(fields: [i32; 3]) -> u8 {
+    match AnnexEntry::new(fields).checked() {
         Ok(_) => 0,
         Err(fault) => fault.field,
     }
 }
 
-fn plate_fault([mark, thickness, grade]: [i32; 3]) -> u8 {
-    let entry = PlateEntry {
-        mark,
-        thickness,
-        grade,
-    };
-    match entry.checked() {
+fn plate_fault(fields: [i32; 3]) -> u8 {
+    match PlateEntry::new(fields).checked() {
         Ok(_) => 0,
         Err(fault) => fault.field,
     }
 }
 
-fn group_fault(
-    [
-        mark,
-        plate_a,
-        plate_b,
-        size,
-        class,
-        rows,
-        columns,
-        e1,
-        p1,
-        e2,
-        p2,
-    ]: [i32; 11],
-) -> u8 {
-    let entry = BoltGroupEntry {
-        mark,
-        plate_a,
-        plate_b,
-        size,
-        class,
-        rows,
-        columns,
-        e1,
-        p1,
-        e2,
-        p2,
-    };
-    match entry.checked() {
+fn group_fault(fields: [i32; 11]) -> u8 {
+    match BoltGroupEntry::new(fields).checked() {
         Ok(_) => 0,
         Err(fault) => fault.field,
     }
 }
 
-fn weld_fault([mark, plate_a, plate_b, throat, length]: [i32; 5]) -> u8 {
-    let entry = WeldEntry {
-        mark,
-        plate_a,
-        plate_b,
-        throat,
-        length,
-    };
-    match entry.checked() {
+fn weld_fault(fields: [i32; 5]) -> u8 {
+    match WeldEntry::new(fields).checked() {
         Ok(_) => 0,
         Err(fault) => fault.field,
     }

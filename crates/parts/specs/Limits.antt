@@ -35,3 +35,8 @@ module _ {X Y : Type 0} where
   abbrev pub at-field : ℕ → Option X → (X → Result Y OutOfLimits) → Result Y OutOfLimits
   at-field k None rest = Err (record { field = k })
   at-field k (Some x) rest = rest x
+
+  -- so is the first fault of a part of it
+  abbrev pub and-then : Result X OutOfLimits → (X → Result Y OutOfLimits) → Result Y OutOfLimits
+  and-then (Err fault) rest = Err fault
+  and-then (Ok x) rest = rest x

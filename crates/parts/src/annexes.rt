@@ -1,5 +1,5 @@
 ghost use mathlib.Core.Path.{_≡_};
-ghost use Rattle.parts.specs.Entries.{annex-checked};
+ghost use Rattle.parts.specs.Entries.{annex-fields, annex-checked};
 use crate::limits::OutOfLimits;
 use crate::limits::limited;
 
@@ -27,6 +27,18 @@ pub struct AnnexEntry {
 }
 
 impl AnnexEntry {
+    // The entry with these numbers, in the order of its fields.
+    pub fn new(fields: [i32; 3]) -> AnnexEntry
+        ensures { λ r. ⌜ r ≡ annex-fields fields ⌝ }
+    {
+        let [make, gamma_m0, gamma_m2] = fields;
+        AnnexEntry {
+            make,
+            gamma_m0,
+            gamma_m2,
+        }
+    }
+
     // The choice, or the first field outside its limits.
     pub fn checked(&self) -> Result<AnnexChoice, OutOfLimits>
         ensures { λ r. ⌜ r ≡ annex-checked (now (self .entry)) ⌝ }

@@ -1,5 +1,5 @@
 ghost use mathlib.Core.Path.{_≡_};
-ghost use Rattle.parts.specs.Entries.{group-checked};
+ghost use Rattle.parts.specs.Entries.{group-fields, group-checked, layout-checked};
 ghost use Rattle.parts.specs.Numbers.{group-mark};
 use crate::limits::OutOfLimits;
 use crate::limits::limited;
@@ -10,14 +10,10 @@ use register::Numbered;
 use stock::bolts::BoltClass;
 use stock::bolts::BoltSize;
 
-// Bolts in rows and columns that join two plates, named by their marks. In mm: end distance e1 and
-// pitch p1 along the rows, edge distance e2 and spacing p2 across them. A pitch without a second
-// row (column) is 0.
+// Equal bolts in rows and columns. In mm: end distance e1 and pitch p1 along the rows, edge distance
+// e2 and spacing p2 across them. A pitch (spacing) without a second row (column) is 0.
 #[derive(Clone, Copy)]
-pub struct BoltGroup {
-    pub mark: u16,
-    pub plate_a: u16,
-    pub plate_b: u16,
+pub struct BoltLayout {
     pub size: BoltSize,
     pub class: BoltClass,
     pub rows: u8,
@@ -26,6 +22,15 @@ pub struct BoltGroup {
     pub p1: u16,
     pub e2: u16,
     pub p2: u16,
+}
+
+// Bolts that join two plates, named by their marks.
+#[derive(Clone, Copy)]
+pub struct BoltGroup {
+    pub mark: u16,
+    pub plate_a: u16,
+    pub plate_b: u16,
+    pub layout: BoltLayout,
 }
 
 pub impl Numbered for BoltGroup as BoltGroupNumbered {
@@ -53,6 +58,38 @@ pub struct BoltGroupEntry {
 }
 
 impl BoltGroupEntry {
+    // The entry with these numbers, in the order of its fields.
+    pub fn new(fields: [i32; 11]) -> BoltGroupEntry
+        ensures { λ r. ⌜ r ≡ group-fields fields ⌝ }
+    {
+        let [
+            mark,
+            plate_a,
+            plate_b,
+            size,
+            class,
+            rows,
+            columns,
+            e1,
+            p1,
+            e2,
+            p2,
+        ] = fields;
+        BoltGroupEntry {
+            mark,
+            plate_a,
+            plate_b,
+            size,
+            class,
+            rows,
+            columns,
+            e1,
+            p1,
+            e2,
+            p2,
+        }
+    }
+
     // The record, or the first field outside its limits.
     pub fn checked(&self) -> Result<BoltGroup, OutOfLimits>
         ensures { λ r. ⌜ r ≡ group-checked (now (self .entry)) ⌝ }
@@ -60,6 +97,18 @@ impl BoltGroupEntry {
         let mark_in = mark(self.mark).ok_or(OutOfLimits { field: 1 })?;
         let plate_a = mark(self.plate_a).ok_or(OutOfLimits { field: 2 })?;
         let plate_b = second_plate(self.plate_b, plate_a).ok_or(OutOfLimits { field: 3 })?;
+        let layout = self.checked_layout()?;
+        Ok(BoltGroup {
+            mark: mark_in,
+            plate_a,
+            plate_b,
+            layout,
+        })
+    }
+
+    fn checked_layout(&self) -> Result<BoltLayout, OutOfLimits>
+        ensures { λ r. ⌜ r ≡ layout-checked (now (self .entry)) ⌝ }
+    {
         let size = BoltSize::numbered(self.size).ok_or(OutOfLimits { field: 4 })?;
         let class = BoltClass::numbered(self.class).ok_or(OutOfLimits { field: 5 })?;
         let rows = limited(self.rows, 1, 10).ok_or(OutOfLimits { field: 6 })? as u8;
@@ -68,10 +117,7 @@ impl BoltGroupEntry {
         let p1 = pitch(self.p1, rows).ok_or(OutOfLimits { field: 9 })?;
         let e2 = limited(self.e2, 1, 400).ok_or(OutOfLimits { field: 10 })?;
         let p2 = pitch(self.p2, columns).ok_or(OutOfLimits { field: 11 })?;
-        Ok(BoltGroup {
-            mark: mark_in,
-            plate_a,
-            plate_b,
+        Ok(BoltLayout {
             size,
             class,
             rows,

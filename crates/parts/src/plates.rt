@@ -1,5 +1,5 @@
 ghost use mathlib.Core.Path.{_≡_};
-ghost use Rattle.parts.specs.Entries.{plate-checked};
+ghost use Rattle.parts.specs.Entries.{plate-fields, plate-checked};
 ghost use Rattle.parts.specs.Numbers.{plate-mark};
 use crate::limits::OutOfLimits;
 use crate::limits::limited;
@@ -32,6 +32,18 @@ pub struct PlateEntry {
 }
 
 impl PlateEntry {
+    // The entry with these numbers, in the order of its fields.
+    pub fn new(fields: [i32; 3]) -> PlateEntry
+        ensures { λ r. ⌜ r ≡ plate-fields fields ⌝ }
+    {
+        let [mark, thickness, grade] = fields;
+        PlateEntry {
+            mark,
+            thickness,
+            grade,
+        }
+    }
+
     // The record, or the first field outside its limits.
     pub fn checked(&self) -> Result<Plate, OutOfLimits>
         ensures { λ r. ⌜ r ≡ plate-checked (now (self .entry)) ⌝ }

@@ -1,5 +1,5 @@
 ghost use mathlib.Core.Path.{_≡_};
-ghost use Rattle.parts.specs.Entries.{weld-checked};
+ghost use Rattle.parts.specs.Entries.{weld-fields, weld-checked};
 ghost use Rattle.parts.specs.Numbers.{weld-mark};
 use crate::limits::OutOfLimits;
 use crate::limits::limited;
@@ -37,6 +37,20 @@ pub struct WeldEntry {
 }
 
 impl WeldEntry {
+    // The entry with these numbers, in the order of its fields.
+    pub fn new(fields: [i32; 5]) -> WeldEntry
+        ensures { λ r. ⌜ r ≡ weld-fields fields ⌝ }
+    {
+        let [mark, plate_a, plate_b, throat, length] = fields;
+        WeldEntry {
+            mark,
+            plate_a,
+            plate_b,
+            throat,
+            length,
+        }
+    }
+
     // The record, or the first field outside its limits.
     pub fn checked(&self) -> Result<Weld, OutOfLimits>
         ensures { λ r. ⌜ r ≡ weld-checked (now (self .entry)) ⌝ }

@@ -1,17 +1,12 @@
 -- What the numbers of a line's fields do to the book.
 use mathlib.Core.List.{List, [], _∷_}
 use Prim.Native.Nat.{ℕ}
-use lib.IntN.{ℤ, pos}
-use lib.ListN.{getD}
+use lib.IntN.{ℤ}
 use Rattle.std.specs.declared.result.Result.{Result}
 use Rattle.std.specs.declared.result.Result.the-variants.{Ok, Err}
 use Rattle.parts.specs.declared.limits.OutOfLimits.{OutOfLimits as LimitFault}
 use Rattle.parts.specs.declared.annexes.AnnexChoice.{AnnexChoice}
-use Rattle.parts.specs.declared.annexes.AnnexEntry.{AnnexEntry}
-use Rattle.parts.specs.declared.plates.PlateEntry.{PlateEntry}
-use Rattle.parts.specs.declared.bolt_groups.BoltGroupEntry.{BoltGroupEntry}
-use Rattle.parts.specs.declared.welds.WeldEntry.{WeldEntry}
-use Rattle.parts.specs.Entries.{annex-checked}
+use Rattle.parts.specs.Entries.{annex-checked, nth, annex-fields, plate-fields, group-fields, weld-fields}
 use Rattle.book.specs.declared.tables.Tables.{Tables}
 use Rattle.book.specs.Drafts.{Answer, plate-answer, plate-entered, group-answer, group-entered, weld-answer, weld-entered, strike-answer, struck-out}
 use Rattle.workshop.specs.declared.columns.IllFormed.{IllFormed as FieldFault}
@@ -23,34 +18,6 @@ Fields = Result (List ℤ) FieldFault
 
 abbrev pub Done : Type 0
 Done = Result (Unit {0}) Fault
-
--- the k-th field, from 0
-abbrev pub nth : ℕ → List ℤ → ℤ
-nth k zs = getD zs k (pos 0)
-
-abbrev pub annex-fields : List ℤ → AnnexEntry
-annex-fields zs = record { make = nth 0 zs; «gamma_m0» = nth 1 zs; «gamma_m2» = nth 2 zs }
-
-abbrev pub plate-fields : List ℤ → PlateEntry
-plate-fields zs = record { mark = nth 0 zs; thickness = nth 1 zs; grade = nth 2 zs }
-
-abbrev pub group-fields : List ℤ → BoltGroupEntry
-group-fields zs = record {
-  mark = nth 0 zs;
-  «plate_a» = nth 1 zs;
-  «plate_b» = nth 2 zs;
-  size = nth 3 zs;
-  class = nth 4 zs;
-  rows = nth 5 zs;
-  columns = nth 6 zs;
-  e1 = nth 7 zs;
-  p1 = nth 8 zs;
-  e2 = nth 9 zs;
-  p2 = nth 10 zs;
-}
-
-abbrev pub weld-fields : List ℤ → WeldEntry
-weld-fields zs = record { mark = nth 0 zs; «plate_a» = nth 1 zs; «plate_b» = nth 2 zs; throat = nth 3 zs; length = nth 4 zs }
 
 -- the annex that an A chooses
 abbrev pub in-limits : Result AnnexChoice LimitFault → Result AnnexChoice Fault

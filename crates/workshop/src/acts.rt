@@ -20,12 +20,7 @@ pub(crate) fn chosen_annex(columns: &[u8]) -> Result<AnnexChoice, Fault>
     requires { ⌜ length (now columns) ≡ 6 * 3 ⌝ }
     ensures { λ r. ⌜ r ≡ beginning (numbers-in 3 (now (columns .entry))) ⌝ }
 {
-    let [make, gamma_m0, gamma_m2] = numbers::<3>(columns)?;
-    let entry = AnnexEntry {
-        make,
-        gamma_m0,
-        gamma_m2,
-    };
+    let entry = AnnexEntry::new(numbers(columns)?);
     Ok(entry.checked()?)
 }
 
@@ -35,12 +30,7 @@ pub(crate) fn add_plate(book: &mut Drafting<AnnexChoice>, columns: &[u8]) -> Res
     ensures annex { λ _. ⌜ now (book .exit) .annex ≡ now (book .entry) .annex ⌝ }
     ensures tables { λ _. ⌜ now (book .exit) .tables ≡ plate-after (now (book .entry) .tables) (numbers-in 3 (now (columns .entry))) ⌝ }
 {
-    let [mark, thickness, grade] = numbers::<3>(columns)?;
-    let entry = PlateEntry {
-        mark,
-        thickness,
-        grade,
-    };
+    let entry = PlateEntry::new(numbers(columns)?);
     Ok(book.add_plate(entry)?)
 }
 
@@ -50,32 +40,7 @@ pub(crate) fn add_bolt_group(book: &mut Drafting<AnnexChoice>, columns: &[u8]) -
     ensures annex { λ _. ⌜ now (book .exit) .annex ≡ now (book .entry) .annex ⌝ }
     ensures tables { λ _. ⌜ now (book .exit) .tables ≡ group-after (now (book .entry) .tables) (numbers-in 11 (now (columns .entry))) ⌝ }
 {
-    let [
-        mark,
-        plate_a,
-        plate_b,
-        size,
-        class,
-        rows,
-        columns,
-        e1,
-        p1,
-        e2,
-        p2,
-    ] = numbers::<11>(columns)?;
-    let entry = BoltGroupEntry {
-        mark,
-        plate_a,
-        plate_b,
-        size,
-        class,
-        rows,
-        columns,
-        e1,
-        p1,
-        e2,
-        p2,
-    };
+    let entry = BoltGroupEntry::new(numbers(columns)?);
     Ok(book.add_bolt_group(entry)?)
 }
 
@@ -85,14 +50,7 @@ pub(crate) fn add_weld(book: &mut Drafting<AnnexChoice>, columns: &[u8]) -> Resu
     ensures annex { λ _. ⌜ now (book .exit) .annex ≡ now (book .entry) .annex ⌝ }
     ensures tables { λ _. ⌜ now (book .exit) .tables ≡ weld-after (now (book .entry) .tables) (numbers-in 5 (now (columns .entry))) ⌝ }
 {
-    let [mark, plate_a, plate_b, throat, length] = numbers::<5>(columns)?;
-    let entry = WeldEntry {
-        mark,
-        plate_a,
-        plate_b,
-        throat,
-        length,
-    };
+    let entry = WeldEntry::new(numbers(columns)?);
     Ok(book.add_weld(entry)?)
 }
 

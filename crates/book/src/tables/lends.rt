@@ -14,6 +14,7 @@ use crate::tables::Table;
 use crate::tables::Tables;
 use parts::bolt_groups::BoltGroup;
 use parts::bolt_groups::BoltGroupNumbered;
+use parts::bolt_groups::BoltLayout;
 use parts::loads::Load;
 use parts::loads::LoadNumbered;
 use parts::plates::Plate;
@@ -98,10 +99,7 @@ impl Tables {
             thickness: 0,
             grade: Grade::S235,
         };
-        let bolt_group = BoltGroup {
-            mark: 0,
-            plate_a: 0,
-            plate_b: 0,
+        let layout = BoltLayout {
             size: BoltSize::M16,
             class: BoltClass::C46,
             rows: 0,
@@ -110,6 +108,12 @@ impl Tables {
             p1: 0,
             e2: 0,
             p2: 0,
+        };
+        let bolt_group = BoltGroup {
+            mark: 0,
+            plate_a: 0,
+            plate_b: 0,
+            layout,
         };
         let weld = Weld {
             mark: 0,
