@@ -33,7 +33,7 @@ use Rattle.parts.specs.Entries.{plate-checked, group-checked, weld-checked}
 use Rattle.book.specs.Tables.{empty-tables, with-plates, with-groups, with-welds, plate-named, group-named, weld-named, mark-used}
 use Rattle.book.specs.Order.{in-order, orderly}
 use Rattle.book.specs.Drafts.{Answer, refuse-if, full-or, and-then, plate-gates, plate-stored, group-gates, group-stored, weld-gates, weld-stored, strike-gates, component-struck, entry-answer, entry-stored, mark-checked}
-use Rattle.book.specs.Laws.{NewlyNamed, FullWhenTaken, PlatesInPlace, PlateTaken, GroupTaken, WeldTaken, MarkFreed, MarkStruck, Refused, Act, adds-plate, adds-group, adds-weld, strikes, holding, drafted, Told, Drafting-laws}
+use Rattle.book.specs.Laws.{NewlyNamed, FullWhenTaken, PlatesInPlace, PlateTaken, GroupTaken, WeldTaken, MarkFreed, MarkStruck, Refused, Act, adds-plate, adds-group, adds-weld, strikes, holding, drafted, DoneNext, Drafting-laws}
 use Rattle.book.proofs.Order.{plates-of-record, groups-known, welds-known, marks-less-group, marks-less-weld, order-plate, order-group, order-weld, order-less-group, order-less-weld, one-component, mark-gone}
 
 module _ {R : Type 0} {N : ℕ} (t : Table R N) where
@@ -247,7 +247,7 @@ full-within table gates laws (Ok x) = laws x
 full-within table gates laws (Err o) = λ e. let z : _≡_ {A = ℕ} 0 1 = cc in absurd (omega arith)
 
 -- one act on a book in order
-act-laws : (t : Tables) → orderly t ≡ true → (act : Act) → (orderly (holding t act) ≡ true) × Told t act
+act-laws : (t : Tables) → orderly t ≡ true → (act : Act) → (orderly (holding t act) ≡ true) × DoneNext t act
 act-laws t order (adds-plate e) =
     let laws = by-limits t order (plate-gates t) (plate-stored t) (λ p r u. PlateTaken p r t u) (λ p. (orderly-plate t order p, plate-taken t p)) (plate-checked e) in
     (laws .0, (laws .1, full-within (t .plates) (plate-gates t) (plates-full t) (plate-checked e)))

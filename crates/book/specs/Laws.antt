@@ -122,18 +122,21 @@ abbrev pub drafted : Tables → List Act → Tables
 drafted t [] = t
 drafted t (act ∷ more) = drafted (holding t act) more
 
--- what an act does, refused or not
-abbrev pub Told : Tables → Act → Type 0
-Told t (adds-plate e) = PlateAdded e (plate-answer t e) t (plate-entered t e) × FullWhenTaken (t .plates) (plate-answer t e)
-Told t (adds-group e) = GroupAdded e (group-answer t e) t (group-entered t e) × FullWhenTaken (t .«bolt_groups») (group-answer t e)
-Told t (adds-weld e) = WeldAdded e (weld-answer t e) t (weld-entered t e) × FullWhenTaken (t .welds) (weld-answer t e)
-Told t (strikes z) = ComponentStruck z (strike-answer t z) t (struck-out t z)
+-- what an act does, refused or not, by its answer and what the book holds before and after it
+abbrev pub Does : Act → Answer → Tables → Tables → Type 0
+Does (adds-plate e) r t u = PlateAdded e r t u × FullWhenTaken (t .plates) r
+Does (adds-group e) r t u = GroupAdded e r t u × FullWhenTaken (t .«bolt_groups») r
+Does (adds-weld e) r t u = WeldAdded e r t u × FullWhenTaken (t .welds) r
+Does (strikes z) r t u = ComponentStruck z r t u
+
+abbrev pub DoneNext : Tables → Act → Type 0
+DoneNext t act = Does act (answer-to t act) t (holding t act)
 
 -- However a book came about: no mark is repeated, the plates that its components name are in it, and
--- the next act, whichever it is, does what is told of it above.
+-- the next act, whichever it is, does what is said of it above.
 unfoldable pub Drafting-laws : Type 0
 Drafting-laws =
     (places : Places) (acts : List Act) →
     (orderly (drafted (empty-tables places) acts) ≡ true)
     × PlatesInPlace (drafted (empty-tables places) acts)
-    × ((act : Act) → Told (drafted (empty-tables places) acts) act)
+    × ((act : Act) → DoneNext (drafted (empty-tables places) acts) act)

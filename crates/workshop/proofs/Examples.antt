@@ -1,12 +1,16 @@
--- Fields that hold a number, and fields that hold none.
+-- Fields that hold a number and fields that hold none; small files and their reports.
 use mathlib.Core.Path.{_≡_, refl}
-use mathlib.Core.List.{[], _∷_}
+use mathlib.Core.List.{[], _∷_, _++_}
 use lib.Chars.{codes}
+use lib.Dec.{lit≤}
 use lib.IntN.{pos, negsuc}
 use Rattle.std.specs.declared.option.Option.the-variants.{Some, None}
 use Rattle.std.specs.declared.result.Result.the-variants.{Ok, Err}
 use Rattle.workshop.specs.Columns.{column-of, number-in, numbers-behind, numbers-in}
 use Rattle.workshop.specs.Lines.{lines-in}
+use Rattle.workshop.specs.Report.{report-of}
+use Rattle.workshop.specs.Rows.{row-bytes}
+use Rattle.workshop.specs.Shape.{Answerable}
 
 zero-alone : number-in (codes "     0") ≡ Some (pos 0)
 zero-alone = refl
@@ -54,3 +58,15 @@ printed = refl
 
 two-lines : lines-in (65 ∷ 66 ∷ 10 ∷ 10 ∷ 67 ∷ []) ≡ (65 ∷ 66 ∷ []) ∷ [] ∷ []
 two-lines = refl
+
+-- a file that is answered line by line
+answerable : Answerable (10 ∷ [])
+answerable = (lit≤ tt, refl)
+
+empty-line : report-of (10 ∷ []) ≡ codes "     1    11     0     0     0     0" ++ 10 ∷ []
+unfolding row-bytes
+empty-line = refl
+
+no-line : report-of [] ≡ codes "     0    16     0     0     0     0" ++ 10 ∷ []
+unfolding row-bytes
+no-line = refl

@@ -36,6 +36,7 @@ all-places = record { plates = 50; «bolt_groups» = 50; welds = 50; loads = 200
 abbrev pub Step : Type 0
 Step = State × Done
 
+-- what an answer and the stage after it say of the file
 abbrev pub outcome : Stage × Done → Step
 outcome r = (state-of (r .0), r .1)
 
@@ -44,9 +45,11 @@ abbrev pub begin-step : Result AnnexChoice Fault → Step
 begin-step (Ok a) = (draft a (empty-tables all-places), Ok tt)
 begin-step (Err f) = (start, Err f)
 
+-- a letter that does nothing at this stage
 abbrev pub misplaced : State → Step
 misplaced s = (s, Err WrongStage)
 
+-- until an A is done only A does something, then P, B, W and X
 abbrev pub act-step : State → Letter → List ℕ → Step
 act-step start Annex columns = begin-step (beginning (numbers-in 3 columns))
 act-step start Plate columns = misplaced start
@@ -72,6 +75,7 @@ abbrev pub letter-step : State → Option Letter → List ℕ → Step
 letter-step s None columns = (s, Err NoLetter)
 letter-step s (Some l) columns = cond (has-columns l columns) (act-step s l columns) (s, Err WrongLength)
 
+-- a line is its letter and the columns behind it
 abbrev pub step : State → List ℕ → Step
 step s [] = (s, Err NoLetter)
 step s (b ∷ columns) = letter-step s (letter-of b) columns
