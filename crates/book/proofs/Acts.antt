@@ -19,9 +19,10 @@ use Rattle.register.proofs.Search.{none-from-test}
 use Rattle.register.proofs.Changes.{record-added, record-others, record-without-others, without-unknown}
 use Rattle.register.proofs.Places.{held-struck, length-places-struck}
 use Rattle.parts.specs.declared.limits.OutOfLimits.{OutOfLimits as LimitFault}
-use Rattle.parts.specs.Numbers.{plate-mark, group-mark, weld-mark}
+use Rattle.parts.specs.Numbers.{plate-mark, weld-mark}
+use Rattle.bolting.specs.Groups.{group-mark, group-checked}
 use Rattle.parts.specs.declared.plates.Plate.{Plate}
-use Rattle.parts.specs.declared.bolt_groups.BoltGroup.{BoltGroup}
+use Rattle.bolting.specs.declared.bolt_groups.BoltGroup.{BoltGroup}
 use Rattle.parts.specs.declared.welds.Weld.{Weld}
 use Rattle.book.specs.declared.tables.Table.{Table}
 use Rattle.book.specs.declared.tables.Tables.{Tables}
@@ -29,7 +30,7 @@ use Rattle.book.specs.declared.refusals.Refusal.{Refusal}
 use Rattle.book.specs.declared.refusals.Refusal.the-variants.{InUse, Unknown, Full}
 use Rattle.book.specs.Refusals.{of-limits}
 use Rattle.book.specs.Tabled.{given-places, records-in, refilled, table-added, table-struck}
-use Rattle.parts.specs.Entries.{plate-checked, group-checked, weld-checked}
+use Rattle.parts.specs.Entries.{plate-checked, weld-checked}
 use Rattle.book.specs.Tables.{empty-tables, with-plates, with-groups, with-welds, plate-named, group-named, weld-named, mark-used}
 use Rattle.book.specs.Order.{in-order, orderly}
 use Rattle.book.specs.Drafts.{Answer, refuse-if, full-or, and-then, plate-gates, plate-stored, group-gates, group-stored, weld-gates, weld-stored, strike-gates, component-struck, entry-answer, entry-stored, mark-checked}

@@ -12,9 +12,10 @@ use Rattle.std.proofs.shelf.Lists.{map-append}
 use Rattle.register.specs.Held.{record-of, without, unrepeated}
 use Rattle.register.proofs.Search.{not-both, none-from-test}
 use Rattle.register.proofs.Changes.{record-without, unrepeated-added, unrepeated-without}
-use Rattle.parts.specs.Numbers.{plate-mark, group-mark, weld-mark}
+use Rattle.parts.specs.Numbers.{plate-mark, weld-mark}
+use Rattle.bolting.specs.Groups.{group-mark}
 use Rattle.parts.specs.declared.plates.Plate.{Plate}
-use Rattle.parts.specs.declared.bolt_groups.BoltGroup.{BoltGroup}
+use Rattle.bolting.specs.declared.bolt_groups.BoltGroup.{BoltGroup}
 use Rattle.parts.specs.declared.welds.Weld.{Weld}
 use Rattle.book.specs.Order.{component-marks, both-plates, all-known, in-order}
 

@@ -11,14 +11,15 @@ use Rattle.std.specs.Results.{isOk}
 use Rattle.register.specs.declared.Full.{Full as NoPlace}
 use Rattle.parts.specs.declared.limits.OutOfLimits.{OutOfLimits as LimitFault}
 use Rattle.parts.specs.declared.plates.Plate.{Plate}
-use Rattle.parts.specs.declared.bolt_groups.BoltGroup.{BoltGroup}
+use Rattle.bolting.specs.declared.bolt_groups.BoltGroup.{BoltGroup}
 use Rattle.parts.specs.declared.welds.Weld.{Weld}
 use Rattle.parts.specs.declared.plates.PlateEntry.{PlateEntry}
-use Rattle.parts.specs.declared.bolt_groups.BoltGroupEntry.{BoltGroupEntry}
+use Rattle.bolting.specs.declared.bolt_groups.BoltGroupEntry.{BoltGroupEntry}
 use Rattle.parts.specs.declared.welds.WeldEntry.{WeldEntry}
 use Rattle.parts.specs.Limits.{mark-in, at-field}
-use Rattle.parts.specs.Entries.{plate-checked, group-checked, weld-checked}
-use Rattle.parts.specs.Numbers.{group-mark, weld-mark}
+use Rattle.parts.specs.Entries.{plate-checked, weld-checked}
+use Rattle.bolting.specs.Groups.{group-checked, group-mark}
+use Rattle.parts.specs.Numbers.{weld-mark}
 use Rattle.book.specs.declared.tables.Tables.{Tables}
 use Rattle.book.specs.declared.refusals.Refusal.{Refusal}
 use Rattle.book.specs.declared.refusals.Refusal.the-variants.{OutOfLimits, InUse, Unknown}

@@ -11,13 +11,14 @@ use Rattle.std.specs.declared.option.Option.the-variants.{Some, None}
 use Rattle.std.specs.declared.result.Result.the-variants.{Err}
 use Rattle.std.specs.Options.{isSome}
 use Rattle.std.specs.Results.{isOk, Cases}
-use Rattle.parts.specs.Numbers.{plate-mark, group-mark, weld-mark}
-use Rattle.parts.specs.Entries.{plate-checked, group-checked, weld-checked}
+use Rattle.parts.specs.Numbers.{plate-mark, weld-mark}
+use Rattle.bolting.specs.Groups.{group-mark, group-checked}
+use Rattle.parts.specs.Entries.{plate-checked, weld-checked}
 use Rattle.parts.specs.declared.plates.Plate.{Plate}
-use Rattle.parts.specs.declared.bolt_groups.BoltGroup.{BoltGroup}
+use Rattle.bolting.specs.declared.bolt_groups.BoltGroup.{BoltGroup}
 use Rattle.parts.specs.declared.welds.Weld.{Weld}
 use Rattle.parts.specs.declared.plates.PlateEntry.{PlateEntry}
-use Rattle.parts.specs.declared.bolt_groups.BoltGroupEntry.{BoltGroupEntry}
+use Rattle.bolting.specs.declared.bolt_groups.BoltGroupEntry.{BoltGroupEntry}
 use Rattle.parts.specs.declared.welds.WeldEntry.{WeldEntry}
 use Rattle.book.specs.declared.tables.Table.{Table}
 use Rattle.book.specs.declared.tables.Tables.{Tables}

@@ -4,9 +4,10 @@ use mathlib.Core.List.{List, [], _∷_, _++_, map}
 use Prim.Native.Nat.{ℕ}
 use Rattle.std.specs.Options.{isSome}
 use Rattle.register.specs.Held.{record-of, unrepeated}
-use Rattle.parts.specs.Numbers.{plate-mark, group-mark, weld-mark}
+use Rattle.parts.specs.Numbers.{plate-mark, weld-mark}
+use Rattle.bolting.specs.Groups.{group-mark}
 use Rattle.parts.specs.declared.plates.Plate.{Plate}
-use Rattle.parts.specs.declared.bolt_groups.BoltGroup.{BoltGroup}
+use Rattle.bolting.specs.declared.bolt_groups.BoltGroup.{BoltGroup}
 use Rattle.parts.specs.declared.welds.Weld.{Weld}
 use Rattle.book.specs.declared.tables.Tables.{Tables}
 use Rattle.book.specs.Tabled.{records-in}

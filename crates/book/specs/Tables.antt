@@ -6,12 +6,13 @@ use mathlib.Core.List.{List}
 use Rattle.std.specs.declared.option.Option.{Option}
 use Rattle.std.specs.Options.{isSome}
 use Rattle.register.specs.Held.{record-of}
-use Rattle.parts.specs.Numbers.{plate-mark, group-mark, weld-mark}
+use Rattle.parts.specs.Numbers.{plate-mark, weld-mark}
+use Rattle.bolting.specs.Groups.{group-mark}
 use Rattle.stock.specs.declared.bolts.BoltClass.the-variants.{C46}
 use Rattle.stock.specs.declared.bolts.BoltSize.the-variants.{M16}
 use Rattle.stock.specs.declared.steel.Grade.the-variants.{S235}
 use Rattle.parts.specs.declared.plates.Plate.{Plate}
-use Rattle.parts.specs.declared.bolt_groups.BoltGroup.{BoltGroup}
+use Rattle.bolting.specs.declared.bolt_groups.BoltGroup.{BoltGroup}
 use Rattle.parts.specs.declared.welds.Weld.{Weld}
 use Rattle.parts.specs.declared.loads.Load.{Load}
 use Rattle.book.specs.declared.tables.Table.{Table}

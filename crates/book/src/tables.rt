@@ -1,4 +1,4 @@
-use parts::bolt_groups::BoltGroup;
+use bolting::bolt_groups::BoltGroup;
 use parts::loads::Load;
 use parts::plates::Plate;
 use parts::welds::Weld;

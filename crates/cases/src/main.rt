@@ -1,15 +1,9 @@
 // Runs the files of data/ through the library and compares their reports with those that an
 // independent implementation gave.
 
-use std::alloc::Global;
 use std::error::AnyError;
 use std::fs;
 use workshop::file::report;
-
-#[cfg(test)]
-mod gates;
-#[cfg(test)]
-mod limits;
 
 // The bytes of a row, with its line feed.
 const ROW: usize = 37;

@@ -2,7 +2,6 @@
 // limits.
 
 pub mod annexes;
-pub mod bolt_groups;
 pub mod limits;
 pub mod loads;
 pub mod plates;

@@ -6,7 +6,8 @@ use Rattle.std.specs.declared.result.Result.{Result}
 use Rattle.std.specs.declared.result.Result.the-variants.{Ok, Err}
 use Rattle.parts.specs.declared.limits.OutOfLimits.{OutOfLimits as LimitFault}
 use Rattle.parts.specs.declared.annexes.AnnexChoice.{AnnexChoice}
-use Rattle.parts.specs.Entries.{annex-checked, nth, annex-fields, plate-fields, group-fields, weld-fields}
+use Rattle.parts.specs.Entries.{annex-checked, nth, annex-fields, plate-fields, weld-fields}
+use Rattle.bolting.specs.Groups.{group-fields}
 use Rattle.book.specs.declared.tables.Tables.{Tables}
 use Rattle.book.specs.Drafts.{Answer, plate-answer, plate-entered, group-answer, group-entered, weld-answer, weld-entered, strike-answer, struck-out}
 use Rattle.workshop.specs.declared.columns.IllFormed.{IllFormed as FieldFault}

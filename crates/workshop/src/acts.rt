@@ -8,10 +8,10 @@ use crate::faults::BookFault;
 use crate::faults::ChoiceFault;
 use crate::faults::ColumnFault;
 use crate::faults::Fault;
+use bolting::bolt_groups::BoltGroupEntry;
 use book::drafting::Drafting;
 use parts::annexes::AnnexChoice;
 use parts::annexes::AnnexEntry;
-use parts::bolt_groups::BoltGroupEntry;
 use parts::plates::PlateEntry;
 use parts::welds::WeldEntry;
 

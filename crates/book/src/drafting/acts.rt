@@ -7,7 +7,7 @@ use crate::refusals::LimitsRefusal;
 use crate::refusals::Refusal;
 use crate::tables::Places;
 use crate::tables::Tables;
-use parts::bolt_groups::BoltGroupEntry;
+use bolting::bolt_groups::BoltGroupEntry;
 use parts::limits::OutOfLimits;
 use parts::limits::mark;
 use parts::plates::PlateEntry;

@@ -4,8 +4,8 @@ ghost use Rattle.book.specs.Drafts.{component-gates, plate-gates, plate-stored
 use crate::refusals::FullRefusal;
 use crate::refusals::Refusal;
 use crate::tables::Tables;
-use parts::bolt_groups::BoltGroup;
-use parts::bolt_groups::BoltGroupNumbered;
+use bolting::bolt_groups::BoltGroup;
+use bolting::bolt_groups::BoltGroupNumbered;
 use parts::plates::Plate;
 use parts::plates::PlateNumbered;
 use parts::welds::Weld;

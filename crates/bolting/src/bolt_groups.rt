@@ -1,11 +1,10 @@
 ghost use mathlib.Core.Path.{_≡_};
-ghost use Rattle.parts.specs.Entries.{group-fields, group-checked, layout-checked};
-ghost use Rattle.parts.specs.Numbers.{group-mark};
-use crate::limits::OutOfLimits;
-use crate::limits::limited;
-use crate::limits::mark;
-use crate::limits::pitch;
-use crate::limits::second_plate;
+ghost use Rattle.bolting.specs.Groups.{group-mark, group-fields, group-checked, layout-checked};
+use parts::limits::OutOfLimits;
+use parts::limits::limited;
+use parts::limits::mark;
+use parts::limits::pitch;
+use parts::limits::second_plate;
 use register::Numbered;
 use stock::bolts::BoltClass;
 use stock::bolts::BoltSize;

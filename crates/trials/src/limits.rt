@@ -1,7 +1,7 @@
 // Every limit at both of its edges: the field that is outside, or none.
 
+use bolting::bolt_groups::BoltGroupEntry;
 use parts::annexes::AnnexEntry;
-use parts::bolt_groups::BoltGroupEntry;
 use parts::plates::PlateEntry;
 use parts::welds::WeldEntry;
 use std::test::*;
