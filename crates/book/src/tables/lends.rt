@@ -29,6 +29,45 @@ use stock::bolts::BoltClass;
 use stock::bolts::BoltSize;
 use stock::steel::Grade;
 
+// What a place has before its first record.
+const BLANK_PLATE: Plate = Plate {
+    mark: 0,
+    thickness: 0,
+    grade: Grade::S235,
+};
+
+const BLANK_GROUP: BoltGroup = BoltGroup {
+    mark: 0,
+    plate_a: 0,
+    plate_b: 0,
+    layout: BoltLayout {
+        size: BoltSize::M16,
+        class: BoltClass::C46,
+        rows: 0,
+        columns: 0,
+        e1: 0,
+        p1: 0,
+        e2: 0,
+        p2: 0,
+    },
+};
+
+const BLANK_WELD: Weld = Weld {
+    mark: 0,
+    plate_a: 0,
+    plate_b: 0,
+    throat: 0,
+    length: 0,
+};
+
+const BLANK_LOAD: Load = Load {
+    number: 0,
+    component: 0,
+    force_1: 0,
+    force_2: 0,
+    force_3: 0,
+};
+
 // Adds a record in the first `given` of the places.
 fn add_within<R: Numbered>(
     register: &mut Register,
@@ -95,46 +134,11 @@ impl Tables {
     pub(crate) fn empty(places: Places) -> Tables
         ensures { λ r. ⌜ r ≡ empty-tables places ⌝ }
     {
-        let plate = Plate {
-            mark: 0,
-            thickness: 0,
-            grade: Grade::S235,
-        };
-        let layout = BoltLayout {
-            size: BoltSize::M16,
-            class: BoltClass::C46,
-            rows: 0,
-            columns: 0,
-            e1: 0,
-            p1: 0,
-            e2: 0,
-            p2: 0,
-        };
-        let bolt_group = BoltGroup {
-            mark: 0,
-            plate_a: 0,
-            plate_b: 0,
-            layout,
-        };
-        let weld = Weld {
-            mark: 0,
-            plate_a: 0,
-            plate_b: 0,
-            throat: 0,
-            length: 0,
-        };
-        let load = Load {
-            number: 0,
-            component: 0,
-            force_1: 0,
-            force_2: 0,
-            force_3: 0,
-        };
         Tables {
-            plates: Table::empty(plate, places.plates),
-            bolt_groups: Table::empty(bolt_group, places.bolt_groups),
-            welds: Table::empty(weld, places.welds),
-            loads: Table::empty(load, places.loads),
+            plates: Table::empty(BLANK_PLATE, places.plates),
+            bolt_groups: Table::empty(BLANK_GROUP, places.bolt_groups),
+            welds: Table::empty(BLANK_WELD, places.welds),
+            loads: Table::empty(BLANK_LOAD, places.loads),
         }
     }
 
