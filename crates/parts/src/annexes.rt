@@ -3,7 +3,7 @@ ghost use Rattle.parts.specs.Entries.{annex-fields, annex-checked};
 use crate::limits::OutOfLimits;
 use crate::limits::limited;
 
-// The set of rules that a book is judged by.
+// The set of rules that a book is judged by: EN 1993-1-8 with its own values, or the Spanish code SE-A.
 #[derive(Clone, Copy)]
 pub enum Make {
     En,

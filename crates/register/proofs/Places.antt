@@ -80,13 +80,6 @@ module _ {R : Type 0} (n : ℕ) (xs : List R) where
   pub used-within : length (held n xs) ≤ length xs
   used-within = simp length-take (omega arith)
 
-  pub length-places-added : (x : R) → length (places-added x n xs) ≡ length xs
-  length-places-added x = cond-both (ltb n (length xs)) (set xs n x) xs (λ l. length l ≡ length xs) (λ e. length-set xs n x) (λ e. refl)
-
-  -- the records in use, with one more
-  pub held-added : (x : R) → n < length xs → held (count-added n xs) (places-added x n xs) ≡ held n xs ++ (x ∷ [])
-  held-added x lt = rw (lt-ltb n (length xs) lt) (take-more-set xs n x lt)
-
   module _ (f : R → ℕ) (k : ℕ) where
     -- the records in use, with one fewer
     pub held-found : (at : ℕ) → place-of f k (held n xs) ≡ Some at → held (length (held n xs) - 1) (struck at (length (held n xs)) xs) ≡ without f k (held n xs)
@@ -106,9 +99,6 @@ module _ {R : Type 0} (n : ℕ) (xs : List R) where
           | inl e ↦ rw (← place-known f k (held n xs), e) (sym (without-unknown f k (held n xs) (sym (record-none f k (held n xs) e))))
           | inr s ↦ rw (← place-known f k (held n xs), s .1) (held-found (s .0) (s .1))
         ]
-
-    pub count-struck-within : n ≤ length xs → count-struck f k n xs ≡ cond (isSome (record-of f k (held n xs))) (n - 1) n
-    count-struck-within le = ap (λ m. cond (isSome (record-of f k (held n xs))) (m - 1) n) (length-take-le n xs le)
 
     pub length-places-struck : length (places-struck f k n xs) ≡ length xs
     length-places-struck =

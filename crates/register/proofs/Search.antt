@@ -112,12 +112,3 @@ module _ {R : Type 0} (f : R → ℕ) (k : ℕ) where
         | inl b ↦ let same : y ≡ x = cc (rw b at e) in ap f (sym same) ∙ eqb-true (f y) k b
         | inr b ↦ record-number xs x (rw b at e)
       ]
-
-  -- what holds of each record holds of the one found
-  pub record-all : (P : R → Type 0) (xs : List R) (x : R) → All P xs → record-of f k xs ≡ Some x → P x
-  record-all P [] x all = λ e. not-both refl e
-  record-all P (y ∷ xs) x (h, all) =
-      elim (eqb (f y) k) as (λ v. cond v (Some y) (record-of f k xs) ≡ Some x → P x) [
-        | true ↦ λ e. let same : y ≡ x = cc in subst P same h
-        | false ↦ λ e. record-all P xs x all e
-      ]

@@ -16,7 +16,7 @@ use Rattle.std.proofs.shelf.Lists.{drop-at}
 use Rattle.std.specs.declared.option.Option.{Option}
 use Rattle.std.specs.declared.option.Option.the-variants.{Some, None}
 use Rattle.std.specs.declared.result.Result.the-variants.{Ok}
-use Rattle.workshop.specs.Columns.{Columns-agree, column-of, digit-at, digits-after, field-at, is-digit, natural-in, negative, number-in, number-then, numbers-behind, numbers-in, signed-in, zero-then}
+use Rattle.workshop.specs.Columns.{Columns-agree, Columns-side-by-side, column-of, digit-at, digits-after, field-at, is-digit, natural-in, negative, number-in, number-then, numbers-behind, numbers-in, signed-in, zero-then}
 
 -- a number printed at the right of k places and one
 wide : ℕ → ℕ → List ℕ
@@ -202,5 +202,6 @@ columns-behind i front (n ∷ ns) long (first, small) =
     ∙ columns-behind (suc i) (front ++ column-of n) ns (simp length-append (omega arith)) small in
     ap (λ r. number-then r (numbers-behind (suc i) (length ns) bytes)) here ∙ ap (number-then (Ok (pos n))) behind
 
-pub columns-read : (ns : List ℕ) → All (λ n. n ≤ 999999) ns → numbers-in (length ns) (joined column-of ns) ≡ Ok (map pos ns)
-columns-read ns small = columns-behind 0 [] ns refl small
+pub columns-side-by-side : Columns-side-by-side
+unfolding Columns-side-by-side
+columns-side-by-side ns small = columns-behind 0 [] ns refl small

@@ -68,15 +68,6 @@ pub row-printed : (r : Row) (ns : List ℕ) → ns ≡ row-numbers r → printed
 unfolding row-bytes
 row-printed r ns is = ap (λ l. printed l 6) is
 
--- a row has 37 bytes, the last a line feed
-pub row-length : (r : Row) → length (row-bytes r) ≡ 37
-unfolding row-bytes
-row-length r = refl
-
-pub row-ends : (r : Row) → getD (row-bytes r) 36 0 ≡ 10
-unfolding row-bytes
-row-ends r = refl
-
 digit-no-feed : (n w : ℕ) → eqb (digit-at n w) 10 ≡ false
 digit-no-feed n w =
     elim (ltb n w) as (λ v. eqb (cond v 32 (48 + n / w % 10)) 10 ≡ false) [

@@ -1,13 +1,13 @@
 -- Numbers in columns: a field is six bytes, a number stands at its right behind spaces.
 use mathlib.Core.Path.{_≡_}
 use mathlib.Core.Bool.{Bool, cond, _&&_}
-use mathlib.Core.List.{List, [], _∷_}
+use mathlib.Core.List.{List, [], _∷_, map}
 use Prim.Native.Nat.{ℕ, zero, suc, _+_, _-_, _*_, _/_, _%_, _≤_}
 use lib.Dec.{eqb, leb, ltb}
 use lib.IntN.{ℤ, pos, negℤ}
 use lib.ListN.{length}
 use Rattle.std.specs.Options.{mapped, okOr}
-use Rattle.std.specs.shelf.Lists.{between}
+use Rattle.std.specs.shelf.Lists.{All, between, joined}
 use Rattle.std.specs.declared.option.Option.{Option}
 use Rattle.std.specs.declared.option.Option.the-variants.{Some, None}
 use Rattle.std.specs.declared.result.Result.{Result}
@@ -83,3 +83,7 @@ abbrev pub Columns-agree : Type 0
 Columns-agree = (n : ℕ) → n ≤ 999999 →
     (number-in (column-of n) ≡ Some (pos n))
     × ((bytes : List ℕ) → length bytes ≡ 6 → number-in bytes ≡ Some (pos n) → bytes ≡ column-of n)
+
+-- So do columns side by side, in their order.
+unfoldable pub Columns-side-by-side : Type 0
+Columns-side-by-side = (ns : List ℕ) → All (λ n. n ≤ 999999) ns → numbers-in (length ns) (joined column-of ns) ≡ Ok (map pos ns)

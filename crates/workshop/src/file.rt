@@ -6,7 +6,7 @@ ghost use Rattle.std.specs.Of.Vec.{vec-items};
 ghost use Rattle.std.specs.Vec.{made};
 ghost use Rattle.std.specs.shelf.Lists.{joined};
 ghost use Rattle.workshop.specs.Rows.{row-bytes};
-ghost use Rattle.workshop.specs.Columns.{Columns-agree};
+ghost use Rattle.workshop.specs.Columns.{Columns-agree, Columns-side-by-side};
 ghost use Rattle.workshop.specs.Lines.{lines-in};
 ghost use Rattle.workshop.specs.Shape.{Reports-shaped};
 ghost use Rattle.workshop.specs.Stages.{start};
@@ -27,6 +27,7 @@ pub fn report(heap: Global, file: &[u8]) -> Result<Vec<u8>, AllocError>
     ensures bytes { λ r. ⌜ made r (λ v. vec-items v ≡ report-of (now (file .entry))) ⌝ }
     ensures shape { λ _. ⌜ Reports-shaped ⌝ }
     ensures columns { λ _. ⌜ Columns-agree ⌝ }
+    ensures lines { λ _. ⌜ Columns-side-by-side ⌝ }
 {
     let mut report = begun_report(heap);
     match check_file(file) {
@@ -41,6 +42,7 @@ fn begun_report(heap: Global) -> Vec<u8>
     ensures items { λ r. ⌜ vec-items r ≡ [] ⌝ }
     ensures shape { λ _. ⌜ Reports-shaped ⌝ }
     ensures columns { λ _. ⌜ Columns-agree ⌝ }
+    ensures lines { λ _. ⌜ Columns-side-by-side ⌝ }
 {
     Vec::new(heap)
 }
