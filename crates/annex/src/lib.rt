@@ -1,4 +1,6 @@
 // Annexes: the interface, and its two makes.
+#![tactic(auto)]
+
 ghost use Rattle.std.specs.Prelude.{◌≡◌};
 ghost use Rattle.annex.specs.Meaning.{Meaning};
 ghost use Rattle.annex.specs.Facts.{SmallerMet, UnloadedMet};

@@ -1,4 +1,5 @@
 // A book of joints, while it is drafted.
+#![tactic(auto)]
 
 pub mod drafting;
 pub mod refusals;

@@ -1,5 +1,6 @@
 // Runs the files of data/ through the library and compares their reports with those that an
 // independent implementation gave.
+#![tactic(auto)]
 
 use std::fs;
 use workshop::file::report;

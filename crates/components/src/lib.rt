@@ -1,5 +1,7 @@
 // Components as a standard judges them: a bolt group or a weld with the plates that it joins, and the
 // sizes of the forces on it.
+#![tactic(auto)]
+
 ghost use Rattle.std.specs.Prelude.{◌≡◌};
 ghost use Rattle.components.specs.Parts.{plate_on, thinner, weaker_grade, size_in};
 

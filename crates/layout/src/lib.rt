@@ -1,4 +1,6 @@
 // Layout clauses: distances of bolts, proportions of welds.
+#![tactic(auto)]
+
 ghost use Rattle.std.specs.Prelude.{◌≡◌};
 ghost use Rattle.layout.specs.Layout.{bolt_clause_numbered, weld_clause_numbered, min_end, min_pitch, min_length, in_holes, bolts_laid_out, weld_laid_out, layout_met};
 

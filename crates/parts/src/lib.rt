@@ -1,5 +1,6 @@
 // The parts of a joint: the records of a book, and the entries as they come from a file, with their
 // limits.
+#![tactic(auto)]
 
 pub mod annexes;
 pub mod limits;

@@ -1,6 +1,7 @@
 // Puts the questions of the tables in data/ to an annex, and compares its answers with those that
 // independent implementations gave. A row: make γM0 γM2 | B d class rows columns e1 p1 e2 p2 tA gradeA tB
 // gradeB (or W a L tA gradeA tB gradeB) | clause | s1 s2 s3 | 1 met, 0 not.
+#![tactic(auto)]
 
 use annex::Annex;
 use annex::chosen::Chosen;

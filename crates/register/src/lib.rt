@@ -1,4 +1,6 @@
 // Numbered records in places that are lent to each call: a register keeps only how many of the places are in use.
+#![tactic(auto)]
+
 ghost use Rattle.std.specs.Prelude.{◌≡◌, ℕ, ◌+◌, ◌-◌, ◌<◌, ◌≤◌, length, is_some, IfSome, Some, slice_set};
 ghost use Rattle.register.specs.Held.{held, place_of, record_of, adding, count_added, places_added, struck, count_struck, places_struck};
 ghost use Rattle.register.specs.Laws.{Added, AddedOrKept, RefusedWhenFull, StaysUnrepeated, Struck, StruckOrKept};

@@ -1,4 +1,5 @@
 // Closed lists with their tables: the makes of standards, steel grades and bolts.
+#![tactic(auto)]
 
 pub mod bolts;
 pub mod makes;

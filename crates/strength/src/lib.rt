@@ -1,4 +1,6 @@
 // The strength clauses of the standards, each an exact comparison of whole numbers.
+#![tactic(auto)]
+
 ghost use Rattle.std.specs.Prelude.{◌≡◌, true};
 ghost use Rattle.strength.specs.Strength.{bolt_clause_numbered, weld_clause_numbered, in_range, bolts_hold, welds_hold, strength_met};
 

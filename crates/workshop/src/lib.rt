@@ -1,4 +1,5 @@
 // A workshop's file: its columns, its lines, the stages of its book, and the report.
+#![tactic(auto)]
 
 mod acts;
 mod columns;
