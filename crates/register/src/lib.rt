@@ -38,7 +38,7 @@ impl Register {
 
     // The record with the number, copied out.
     pub fn find<R: Numbered>(&self, places: &[R], number: u16) -> Option<R>
-        ensures { result ≡ record_of numbered number (held self.now.count places.now) }
+        ensures { result ≡ record_of R.numbered number (held self.now.count places.now) }
     {
         record_of(self.in_use(places), number)
     }
@@ -49,8 +49,8 @@ impl Register {
         ensures count { self.new.count ≡ count_added self.old.count places.old }
         ensures places { places.new ≡ places_added item self.old.count places.old }
         ensures full { RefusedWhenFull result self.old.count places.old }
-        ensures found { AddedOrKept numbered item result self.old.count places.old self.new.count places.new }
-        ensures unrepeated { StaysUnrepeated numbered item (held self.old.count places.old) (held self.new.count places.new) }
+        ensures found { AddedOrKept R.numbered item result self.old.count places.old self.new.count places.new }
+        ensures unrepeated { StaysUnrepeated R.numbered item (held self.old.count places.old) (held self.new.count places.new) }
     {
         if self.count < places.len() {
             put(places, self.count, item);
@@ -63,10 +63,10 @@ impl Register {
 
     // Takes the record with the number out; says whether there was one.
     pub fn strike<R: Numbered>(&mut self, places: &mut [R], number: u16) -> bool
-        ensures answer { result ≡ is_some (record_of numbered number (held self.old.count places.old)) }
-        ensures count { self.new.count ≡ count_struck numbered number self.old.count places.old }
-        ensures places { places.new ≡ places_struck numbered number self.old.count places.old }
-        ensures found { StruckOrKept numbered number result self.old.count places.old self.new.count places.new }
+        ensures answer { result ≡ is_some (record_of R.numbered number (held self.old.count places.old)) }
+        ensures count { self.new.count ≡ count_struck R.numbered number self.old.count places.old }
+        ensures places { places.new ≡ places_struck R.numbered number self.old.count places.old }
+        ensures found { StruckOrKept R.numbered number result self.old.count places.old self.new.count places.new }
     {
         let records = self.in_use(places);
         let used = records.len();
@@ -94,8 +94,8 @@ impl Register {
 fn put<R: Numbered>(places: &mut [R], at: usize, item: R)
     requires { at < length places.old }
     ensures places { places.new ≡ slice_set places.old at item }
-    ensures found { Added numbered item (held at places.old) (held (at + 1) places.new) }
-    ensures unrepeated { StaysUnrepeated numbered item (held at places.old) (held (at + 1) places.new) }
+    ensures found { Added R.numbered item (held at places.old) (held (at + 1) places.new) }
+    ensures unrepeated { StaysUnrepeated R.numbered item (held at places.old) (held (at + 1) places.new) }
 {
     places[at] = item;
 }
@@ -104,7 +104,7 @@ fn put<R: Numbered>(places: &mut [R], at: usize, item: R)
 fn close_gap<R: Numbered>(places: &mut [R], at: usize, end: usize)
     requires { (at < end) × (end ≤ length places.old) }
     ensures places { places.new ≡ struck at end places.old }
-    ensures found { (n k : ℕ) → end ≡ length (held n places.old) → place_of numbered k (held n places.old) ≡ Some at → Struck numbered k (held n places.old) (held (end - 1) places.new) }
+    ensures found { (n k : ℕ) → end ≡ length (held n places.old) → place_of R.numbered k (held n places.old) ≡ Some at → Struck R.numbered k (held n places.old) (held (end - 1) places.new) }
 {
     for i in at + 1..end {
         places[i - 1] = places[i];
@@ -113,8 +113,8 @@ fn close_gap<R: Numbered>(places: &mut [R], at: usize, end: usize)
 
 // The place of the first record with the number.
 fn place_of<R: Numbered>(records: &[R], number: u16) -> Option<usize>
-    ensures place { result ≡ place_of numbered number records.now }
-    ensures known { is_some result ≡ is_some (record_of numbered number records.now) }
+    ensures place { result ≡ place_of R.numbered number records.now }
+    ensures known { is_some result ≡ is_some (record_of R.numbered number records.now) }
     ensures within { IfSome result (λ i. i < length records.now) }
 {
     for (i, item) in records.iter().enumerate() {
@@ -127,7 +127,7 @@ fn place_of<R: Numbered>(records: &[R], number: u16) -> Option<usize>
 
 // The first record with the number.
 fn record_of<R: Numbered>(records: &[R], number: u16) -> Option<R>
-    ensures { result ≡ record_of numbered number records.now }
+    ensures { result ≡ record_of R.numbered number records.now }
 {
     let at = place_of(records, number)?;
     Some(records[at])

@@ -5,4 +5,4 @@ use Rattle.register.proofs.record_of.Goals as goal
 pub returns : goal.returns
 returns g c =
     ap Some c.index-records-at.is
-    ∙ record_at g.R.Numbered.numbered c.args.number c.args.records.now c.in-ok-at.at c.index-records-at.result (sym c.in-ok-at.ensures.place)
+    ∙ record_at g.R.Numbered.numbered c.args.number c.args.records.now c.in_ok-at.at c.index-records-at.result (sym c.in_ok-at.ensures.place)
