@@ -75,9 +75,9 @@ fn strike_within<R: Numbered>(
     given: usize,
     number: u16,
 ) -> bool
-    ensures answer { result ≡ is_some (record_of numbered number (held register.old.count (take given places.old))) }
-    ensures count { register.new.count ≡ (if result then count_struck numbered number register.old.count (take given places.old) else register.old.count) }
-    ensures places { places.new ≡ (if result then places_struck numbered number register.old.count (take given places.old) ++ drop given places.old else places.old) }
+    ensures answer { result ≡ is_some (record_of R.numbered number (held register.old.count (take given places.old))) }
+    ensures count { register.new.count ≡ (if result then count_struck R.numbered number register.old.count (take given places.old) else register.old.count) }
+    ensures places { places.new ≡ (if result then places_struck R.numbered number register.old.count (take given places.old) ++ drop given places.old else places.old) }
 {
     let lent = given.min(places.len());
     register.strike(&mut places[0..lent], number)
@@ -90,7 +90,7 @@ fn find_within<R: Numbered>(
     given: usize,
     number: u16,
 ) -> Option<R>
-    ensures { result ≡ record_of numbered number (held register.now.count (take given places.now)) }
+    ensures { result ≡ record_of R.numbered number (held register.now.count (take given places.now)) }
 {
     let lent = given.min(places.len());
     register.find(&places[0..lent], number)
@@ -109,7 +109,7 @@ impl<R: Numbered, const N: usize> Table<R, N> {
     }
 
     pub(crate) fn find(&self, number: u16) -> Option<R>
-        ensures { result ≡ record_of numbered number (records_in self.now) }
+        ensures { result ≡ record_of R.numbered number (records_in self.now) }
     {
         find_within(&self.register, &self.places, self.given, number)
     }

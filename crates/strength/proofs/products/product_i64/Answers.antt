@@ -9,13 +9,13 @@ fits c = product_fits w64 (pos c.args.a) c.args.b (2 ^ 32 - 1) (2 ^ 31) (omega a
 second : (c : goal.After-from-2) → c.from-2.result ≡ c.args.b
 second c = c.from-2.ensures ∙ to_z-of_z w32 c.args.b c.ranges.b
 
-pub overflow-mul-result : goal.overflow-mul-result
-overflow-mul-result c =
+pub overflow_mul-result : goal.overflow_mul-result
+overflow_mul-result c =
     subst (SFits w64)
-    (sym (product_of w64 c.from.result c.from-2.result (pos c.args.a) c.args.b (record { sfits = c.from.type-inv }) (record { sfits = c.from-2.type-inv }) c.from.ensures (second c)))
+    (sym (product_of w64 c.from.result c.from-2.result (pos c.args.a) c.args.b (record { sfits = c.from.type_inv }) (record { sfits = c.from-2.type_inv }) c.from.ensures (second c)))
     (fits c)
 
 pub returns : goal.returns
 returns c =
-    exact_product w64 c.from.result c.from-2.result (pos c.args.a) c.args.b (record { sfits = c.from.type-inv }) (record { sfits = c.from-2.type-inv }) c.from.ensures (second c)
+    exact_product w64 c.from.result c.from-2.result (pos c.args.a) c.args.b (record { sfits = c.from.type_inv }) (record { sfits = c.from-2.type_inv }) c.from.ensures (second c)
     (fits c)
