@@ -8,20 +8,20 @@ use Rattle.workshop.proofs.columns.numbers.Goals as goal
 pub loop-i-init : goal.loop-i-init
 loop-i-init g c = (left_all g.row.N c.args.columns.now, length-replicate _ _)
 
-pub returns-in-err-numbers : goal.returns-in-err-numbers
-returns-in-err-numbers g c =
-    let exit = err_from_is_err_and c.from-residual.result c.from-residual.ensures.1 in
+pub returns-in_err-numbers : goal.returns-in_err-numbers
+returns-in_err-numbers g c =
+    let exit = err_from_is_err_and c.from_residual.result c.from_residual.ensures.1 in
     rw (exit.1, exit.2)
-    (sym (left_fails g.row.N c.args.columns.now c.loop-i.i c.loop-i.numbers _ c.loop-i-test.true c.in-err-numbers.ensures)
+    (sym (left_fails g.row.N c.args.columns.now c.loop-i.i c.loop-i.numbers _ c.loop-i-test.true c.in_err-numbers.ensures)
     ∙ c.loop-i.invariant.0)
 
 pub loop-i-preserved : goal.loop-i-preserved
 loop-i-preserved g c =
-    let fits : SFits w32 c.in-ok-numbers.field-0 = search rules in
-    let same : to_z w32 (of_z w32 c.in-ok-numbers.field-0) ≡ c.in-ok-numbers.field-0 = to_z-of_z w32 _ fits in (
+    let fits : SFits w32 c.in_ok-numbers.field-0 = search rules in
+    let same : to_z w32 (of_z w32 c.in_ok-numbers.field-0) ≡ c.in_ok-numbers.field-0 = to_z-of_z w32 _ fits in (
       rw same
-          (left_more g.row.N c.args.columns.now c.loop-i.i c.loop-i.numbers c.in-ok-numbers.field-0
-          c.loop-i-test.true c.loop-i.invariant.1 c.in-ok-numbers.ensures
+          (left_more g.row.N c.args.columns.now c.loop-i.i c.loop-i.numbers c.in_ok-numbers.field-0
+          c.loop-i-test.true c.loop-i.invariant.1 c.in_ok-numbers.ensures
           ∙ c.loop-i.invariant.0),
       length-set _ _ _ ∙ c.loop-i.invariant.1,
     )

@@ -4,18 +4,18 @@ use Rattle.workshop.specs.Columns.{digits_after}
 use Rattle.workshop.proofs.Reading.{digits_end, digits_more, digits_room}
 use Rattle.workshop.proofs.columns.value.Goals as goal
 
-pub returns-then-not-is-ascii-digit : goal.returns-then-not-is-ascii-digit
-returns-then-not-is-ascii-digit c =
+pub returns-then-not-is_ascii_digit : goal.returns-then-not-is_ascii_digit
+returns-then-not-is_ascii_digit c =
     record {
       read = sym (digits_end c.loop-digit.value c.args.digits.now c.loop-digit.digit-index c.loop-digit-test.true
-          (sym c.if-not-is-ascii-digit.ensures.value)) ∙ c.loop-digit.invariant.0;
+          (sym c.if-not-is_ascii_digit.ensures.value)) ∙ c.loop-digit.invariant.0;
       small = tt;
     }
 
 pub loop-digit-preserved : goal.loop-digit-preserved
 loop-digit-preserved c =
     let at = digits_more c.loop-digit.value c.args.digits.now c.loop-digit.digit-index c.loop-digit-test.true
-    (sym c.if-not-is-ascii-digit.ensures.value) in
+    (sym c.if-not-is_ascii_digit.ensures.value) in
     (sym at.0 ∙ c.loop-digit.invariant.0, at.1 c.loop-digit.invariant.1)
 
 pub returns : goal.returns

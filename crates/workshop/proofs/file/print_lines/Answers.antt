@@ -8,5 +8,5 @@ loop-line-preserved c = (
   omega (arith, c.in-Some.ensures.shorter),
   row_more _ _ c.answered.result c.loop-line.number (state_of c.loop-line.stage) (state_of c.answer-next.result.0) c.answer-next.result.1
       c.loop-line.text.now c.in-Some.rest.now c.in-Some.line.now _
-      c.in-ok-print.ensures c.answered.ensures c.answer-next.ensures c.in-Some.ensures.lines c.loop-line.invariant.1,
+      c.in_ok-print.ensures c.answered.ensures c.answer-next.ensures c.in-Some.ensures.lines c.loop-line.invariant.1,
 )

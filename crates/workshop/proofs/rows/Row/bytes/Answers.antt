@@ -5,7 +5,7 @@ use Rattle.workshop.proofs.rows.Row.bytes.Goals as goal
 pub loop-i-preserved : goal.loop-i-preserved
 loop-i-preserved c =
     printed_more c.numbers-numbers.result c.loop-i.i (omega (arith, ap length c.numbers-numbers.ensures)) c.loop-i-test.true
-    c.loop-i.bytes c.copy-from-slice.new.self c.loop-i.invariant.0 (c.copy-from-slice.ensures.after ∙ c.column.ensures)
+    c.loop-i.bytes c.copy_from_slice.new.self c.loop-i.invariant.0 (c.copy_from_slice.ensures.after ∙ c.column.ensures)
 
 pub returns : goal.returns
 returns c =

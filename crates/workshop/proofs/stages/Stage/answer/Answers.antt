@@ -8,6 +8,6 @@ pub returns-in-len1-up : goal.returns-in-len1-up
 returns-in-len1-up c =
     let line = c.args.line.now in
     let s = state_of c.args.self in
-    c.answer-letter.ensures
+    c.answer_letter.ensures
     ∙ ap (λ o. letter_step s o (take (length line - 1) (drop 1 line))) (c.read.ensures ∙ ap letter_of c.from.ensures)
     ∙ step_letter s line
