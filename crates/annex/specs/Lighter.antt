@@ -1,6 +1,6 @@
 -- Under smaller factors and smaller sizes every clause stays met. With the same factors this is a fact of each annex,
 -- with the same sizes it says how factors make an annex stricter.
-use Rattle.std.specs.Prelude.{◌≡◌, ℕ, ◌+◌, ◌-◌, ◌*◌, ◌≤◌, true}
+use Rattle.std.specs.Prelude.{◌≡◌, ℕ, ◌+◌, ◌*◌, ◌≤◌, true}
 use Rattle.std.proofs.Common.{arith}
 use Rattle.std.proofs.lemmas.Nat.{mul-le}
 use Rattle.stock.specs.declared.makes.Make.{Make}

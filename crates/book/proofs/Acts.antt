@@ -14,9 +14,7 @@ use Rattle.bolting.specs.declared.bolt_groups.BoltGroup.{BoltGroup}
 use Rattle.parts.specs.declared.welds.Weld.{Weld}
 use Rattle.book.specs.declared.tables.Table.{Table}
 use Rattle.book.specs.declared.tables.Tables.{Tables}
-use Rattle.book.specs.declared.refusals.Refusal.{Refusal}
 use Rattle.book.specs.declared.refusals.Refusal.TheVariants.{InUse, Unknown, Full}
-use Rattle.book.specs.Refusals.{of_limits}
 use Rattle.book.specs.Tabled.{given_places, records_in, refilled, table_added, table_struck}
 use Rattle.parts.specs.Entries.{plate_checked, weld_checked}
 use Rattle.book.specs.Tables.{empty_tables, with_plates, with_groups, with_welds, plate_named, group_named, weld_named, mark_used}

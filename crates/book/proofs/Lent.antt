@@ -1,5 +1,5 @@
 -- Places lent by a count that may exceed them.
-use Rattle.std.proofs.Common.{◌≡◌, ℕ, ◌+◌, ◌-◌, ◌≤◌, min, Bool, true, false, cond, ltb, leb, List, ◌++◌, length, take, drop, set, is_some, is_ok, Some, None, Ok, Err, Option, Result, sym, refl, ap, ◌∙◌, inl, inr, arith, take-append-drop, take_all}
+use Rattle.std.proofs.Common.{◌≡◌, ℕ, ◌+◌, ◌-◌, ◌≤◌, min, Bool, true, false, cond, ltb, leb, List, ◌++◌, length, take, drop, set, is_some, is_ok, Some, None, Ok, Err, Option, Result, sym, ap, ◌∙◌, inl, inr, arith, take-append-drop, take_all}
 use Rattle.std.proofs.lemmas.Bool.{cases_Bool, leb-true, leb-false}
 use lib.Seq.{take-length, drop-length}
 use Rattle.std.proofs.lemmas.List.{drop_all}

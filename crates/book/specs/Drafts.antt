@@ -1,5 +1,5 @@
 -- The acts on a book that is drafted: what each answers, and what the book then holds.
-use Rattle.std.specs.Prelude.{ℕ, Bool, cond, not, ℤ, is_some, is_ok, Some, None, Ok, Err, Option, Result}
+use Rattle.std.specs.Prelude.{ℕ, Bool, cond, not, ℤ, is_some, is_ok, Ok, Err, Result}
 use Rattle.register.specs.declared.Full.{Full as NoPlace}
 use Rattle.parts.specs.declared.limits.OutOfLimits.{OutOfLimits as LimitFault}
 use Rattle.parts.specs.declared.plates.Plate.{Plate}
@@ -14,7 +14,7 @@ use Rattle.bolting.specs.Groups.{group_checked, group_mark}
 use Rattle.parts.specs.Numbers.{weld_mark}
 use Rattle.book.specs.declared.tables.Tables.{Tables}
 use Rattle.book.specs.declared.refusals.Refusal.{Refusal}
-use Rattle.book.specs.declared.refusals.Refusal.TheVariants.{OutOfLimits, InUse, Unknown}
+use Rattle.book.specs.declared.refusals.Refusal.TheVariants.{InUse, Unknown}
 use Rattle.book.specs.Refusals.{of_limits, of_full}
 use Rattle.book.specs.Tabled.{room_in, table_added, table_struck}
 use Rattle.book.specs.Tables.{with_plates, with_groups, with_welds, plate_named, group_named, mark_used}

@@ -1,5 +1,5 @@
 -- What a book holds, and how its records are named.
-use Rattle.std.specs.Prelude.{ℕ, Bool, ◌||◌, List, pos, is_some, Option}
+use Rattle.std.specs.Prelude.{ℕ, Bool, ◌||◌, pos, is_some, Option}
 use Rattle.register.specs.Held.{record_of}
 use Rattle.parts.specs.Numbers.{plate_mark, weld_mark}
 use Rattle.bolting.specs.Groups.{group_mark}

@@ -1,12 +1,12 @@
 -- The places after a record is added or struck.
-use Rattle.std.proofs.Common.{◌≡◌, ℕ, suc, ◌+◌, ◌-◌, ◌<◌, ◌≤◌, min, cond, ltb, List, [], ◌∷◌, ◌++◌, length, get_or, take, drop, set, is_some, Some, sym, refl, ap, ◌∙◌, subst, inl, inr, arith, length-append, length-drop, length-set, length-take, length-take-le, get_or-drop, take_all, take-take, take_at}
+use Rattle.std.proofs.Common.{◌≡◌, ℕ, suc, ◌+◌, ◌-◌, ◌<◌, ◌≤◌, min, List, [], ◌∷◌, ◌++◌, length, get_or, take, drop, set, Some, sym, ap, ◌∙◌, subst, inl, inr, arith, length-append, length-drop, length-take, length-take-le, get_or-drop, take_all, take-take, take_at}
 use lib.Seq.{paste, drop-paste}
 use Rattle.std.specs.List.{remove}
 use Rattle.std.proofs.lemmas.List.Edits.{paste_more, paste_none, length-remove}
 use Rattle.std.proofs.lemmas.List.{take_more_set}
 use Rattle.std.proofs.lemmas.Slice.{between_is}
-use Rattle.std.proofs.lemmas.Bool.{lt-ltb, cond_both, cases_lt}
-use Rattle.register.specs.Held.{held, place_of, record_of, without, count_added, places_added, struck, count_struck, places_struck}
+use Rattle.std.proofs.lemmas.Bool.{cases_lt}
+use Rattle.register.specs.Held.{held, place_of, without, struck, count_struck, places_struck}
 use Rattle.register.specs.Laws.{Added, StaysUnrepeated, Struck}
 use Rattle.register.proofs.Search.{cases_option, record_none, place_within, place_known, removed_without}
 use Rattle.register.proofs.Changes.{without_unknown, added_last, unrepeated_added, struck_without}

@@ -5,7 +5,7 @@ use Rattle.std.proofs.lemmas.Bool.{cases_Bool, cases_lt, cases_eq, eqb-true, eqb
 use Rattle.std.specs.Option.{option_map, ok_or}
 use Rattle.std.specs.List.{between, flat_map, AllByRecursion as All}
 use Rattle.std.proofs.lemmas.List.{drop_at}
-use Rattle.workshop.specs.Columns.{ColumnsAgree, ColumnsSideBySide, column_of, digit_at, digits_after, field_at, is_digit, natural_in, negative, number_in, number_then, numbers_behind, numbers_in, signed_in, zero_then}
+use Rattle.workshop.specs.Columns.{ColumnsAgree, ColumnsSideBySide, column_of, digit_at, digits_after, field_at, is_digit, natural_in, negative, number_in, number_then, numbers_behind, signed_in, zero_then}
 
 -- a number printed at the right of k places and one
 wide : ℕ → ℕ → List ℕ

@@ -1,15 +1,14 @@
 -- The shape of a report.
-use Rattle.std.proofs.Common.{◌≡◌, ℕ, suc, ◌+◌, ◌≤◌, Bool, true, false, cond, ltb, List, [], ◌∷◌, ◌++◌, map, length, take, Ok, Err, sym, refl, ap, ◌∙◌, subst, inl, inr, arith}
+use Rattle.std.proofs.Common.{◌≡◌, ℕ, suc, ◌+◌, ltb, List, [], ◌∷◌, ◌++◌, map, length, take, Ok, Err, refl, ap, ◌∙◌, inl, inr, arith}
 use Rattle.std.specs.List.{flat_map, AllByRecursion as All}
 use Rattle.std.proofs.lemmas.Bool.{cases_Bool, ltb-true, ltb-false}
 use Rattle.workshop.specs.declared.rows.Row.{Row}
-use Rattle.workshop.specs.declared.faults.Fault.TheVariants.{TooLong, Unfinished}
 use Rattle.workshop.specs.Acts.{Done}
 use Rattle.workshop.specs.Columns.{column_of}
 use Rattle.workshop.specs.Lines.{lines_in, line_feeds, ends_line, ended}
 use Rattle.workshop.specs.Rows.{row_numbers, row_bytes}
-use Rattle.workshop.specs.Report.{file_gate, row_of, rows_from, gated_rows, report_rows, report_of}
-use Rattle.workshop.specs.Shape.{Answerable, NumberedFrom, ShapedFor, ReportsShaped}
+use Rattle.workshop.specs.Report.{file_gate, row_of, rows_from, gated_rows, report_rows}
+use Rattle.workshop.specs.Shape.{Answerable, NumberedFrom, ReportsShaped}
 use Rattle.workshop.specs.Stages.{State, start, step}
 use Rattle.workshop.proofs.Printing.{row_line}
 use Rattle.workshop.proofs.Splitting.{lines_count}

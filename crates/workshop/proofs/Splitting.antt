@@ -1,9 +1,8 @@
 -- Text split at its line feeds.
-use Rattle.std.proofs.Common.{◌≡◌, ℕ, suc, ◌+◌, ◌-◌, ◌<◌, ◌≤◌, true, false, cond, eqb, List, [], ◌∷◌, ◌++◌, length, get_or, take, drop, sym, refl, ap, ◌∙◌, inl, inr, arith, take-append-drop}
-use Rattle.std.specs.List.{flat_map}
+use Rattle.std.proofs.Common.{◌≡◌, ℕ, suc, ◌+◌, ◌<◌, true, false, cond, eqb, List, [], ◌∷◌, ◌++◌, length, get_or, take, drop, sym, refl, ap, ◌∙◌, arith, take-append-drop}
 use Rattle.std.proofs.lemmas.List.{take_more, drop_more, nil_from_length}
-use Rattle.std.proofs.lemmas.Bool.{cases_Bool, cond-true, cond-false, eqb-true, lt-ltb, ne_eqb}
-use Rattle.workshop.specs.Lines.{ended, ends_line, line_feeds, line_with, lines_in}
+use Rattle.std.proofs.lemmas.Bool.{ne_eqb}
+use Rattle.workshop.specs.Lines.{line_feeds, line_with, lines_in}
 
 -- each line has one line feed
 pub lines_count : (bs : List ℕ) → length (lines_in bs) ≡ line_feeds bs

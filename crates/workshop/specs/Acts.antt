@@ -1,5 +1,5 @@
 -- What the numbers of a line's fields do to the book.
-use Rattle.std.specs.Prelude.{ℕ, List, [], ◌∷◌, ℤ, Ok, Err, Result}
+use Rattle.std.specs.Prelude.{List, ℤ, Ok, Err, Result}
 use Rattle.parts.specs.declared.limits.OutOfLimits.{OutOfLimits as LimitFault}
 use Rattle.parts.specs.declared.annexes.AnnexChoice.{AnnexChoice}
 use Rattle.parts.specs.Entries.{annex_checked, nth, annex_fields, plate_fields, weld_fields}

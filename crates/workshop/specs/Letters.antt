@@ -1,5 +1,5 @@
 -- The letters that begin a line, and how many fields follow each.
-use Rattle.std.specs.Prelude.{ℕ, ◌*◌, Bool, cond, List, [], ◌∷◌, length, Some, None, Option, ◌==◌}
+use Rattle.std.specs.Prelude.{ℕ, ◌*◌, Bool, cond, List, length, Some, None, Option, ◌==◌}
 use Rattle.workshop.specs.declared.letters.Letter.{Letter}
 use Rattle.workshop.specs.declared.letters.Letter.TheVariants.{Annex, Plate, BoltGroup, Weld, Strike, SetOut, Load, Withdraw, Verdict}
 

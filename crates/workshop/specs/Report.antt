@@ -1,14 +1,13 @@
 -- The report of a file: from its bytes to the bytes of the report.
-use Rattle.std.specs.Prelude.{ℕ, ◌+◌, cond, List, [], ◌∷◌, length, Ok, Err, Result, nat_lt}
+use Rattle.std.specs.Prelude.{ℕ, ◌+◌, cond, List, [], ◌∷◌, length, Ok, Err, nat_lt}
 use Rattle.std.specs.List.{flat_map}
-use Rattle.workshop.specs.declared.faults.Fault.{Fault}
 use Rattle.workshop.specs.declared.faults.Fault.TheVariants.{TooLong, Unfinished}
 use Rattle.workshop.specs.declared.rows.Row.{Row}
 use Rattle.workshop.specs.Acts.{Done}
 use Rattle.workshop.specs.Faults.{fault_number, fault_details, no_details}
 use Rattle.workshop.specs.Lines.{lines_in, ends_line}
 use Rattle.workshop.specs.Rows.{row_bytes}
-use Rattle.workshop.specs.Stages.{State, start, draft, step}
+use Rattle.workshop.specs.Stages.{State, start, step}
 
 -- at most 65,536 bytes, and a line feed behind the last line
 abbrev pub file_gate : List ℕ → Done

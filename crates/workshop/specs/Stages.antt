@@ -12,7 +12,7 @@ use Rattle.workshop.specs.declared.stages.Stage.{Stage}
 use Rattle.workshop.specs.declared.stages.Stage.TheVariants.{Start, Drafting}
 use Rattle.workshop.specs.Columns.{numbers_in}
 use Rattle.workshop.specs.Letters.{letter_of, has_columns}
-use Rattle.workshop.specs.Acts.{Done, Fields, beginning, plate_act, plate_after, group_act, group_after, weld_act, weld_after, strike_act, strike_after}
+use Rattle.workshop.specs.Acts.{Done, beginning, plate_act, plate_after, group_act, group_after, weld_act, weld_after, strike_act, strike_after}
 
 -- how far a file has come, and what its book then holds
 pub data State : Type 0 where

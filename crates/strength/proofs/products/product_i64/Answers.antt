@@ -1,4 +1,4 @@
-use Rattle.std.proofs.Common.{◌≡◌, ◌-◌, ◌^◌, ℤ, pos, ◌*ℤ◌, sym, ◌∙◌, subst, arith, lit<, w32, w64, SFits}
+use Rattle.std.proofs.Common.{◌≡◌, ◌-◌, ◌^◌, pos, ◌*ℤ◌, sym, ◌∙◌, subst, arith, lit<, w32, w64, SFits}
 use Rattle.std.proofs.lemmas.Int.{to_z-of_z}
 use Rattle.strength.proofs.Casts.{abs_le, product_fits, product_of, exact_product}
 use Rattle.strength.proofs.products.product_i64.Goals as goal

@@ -1,6 +1,6 @@
-use Rattle.std.proofs.Common.{◌≡◌, Bool, true, false, cond, List, ◌++◌, is_ok, sym, ap, ◌∙◌}
-use Rattle.register.specs.Held.{adding, count_added, places_added}
-use Rattle.book.proofs.Lent.{lent_part, lent_rest, lent_added}
+use Rattle.std.proofs.Common.{ap, ◌∙◌}
+use Rattle.register.specs.Held.{adding}
+use Rattle.book.proofs.Lent.{lent_part, lent_added}
 use Rattle.book.proofs.tables.lends.add_within.Goals as goal
 
 pub returns : goal.returns

@@ -1,4 +1,4 @@
-use Rattle.std.proofs.Common.{◌≡◌, ap, ◌∙◌}
+use Rattle.std.proofs.Common.{ap, ◌∙◌}
 use Rattle.register.specs.Held.{held, record_of}
 use Rattle.book.proofs.Lent.{lent_part}
 use Rattle.book.proofs.tables.lends.find_within.Goals as goal

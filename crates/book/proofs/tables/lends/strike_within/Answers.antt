@@ -1,4 +1,4 @@
-use Rattle.std.proofs.Common.{◌≡◌, is_some, sym, ap, ◌∙◌}
+use Rattle.std.proofs.Common.{is_some, ap, ◌∙◌}
 use Rattle.register.specs.Held.{held, record_of}
 use Rattle.book.proofs.Lent.{lent_part, lent_struck}
 use Rattle.book.proofs.tables.lends.strike_within.Goals as goal
