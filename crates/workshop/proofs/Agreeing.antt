@@ -3,7 +3,7 @@ use Rattle.std.proofs.Common.{◌≡◌, ℕ, zero, suc, ◌+◌, ◌-◌, ◌*�
 use native.Mathlib.Nat.{div-div-eq-div-mul, one-le-pow}
 use Rattle.std.proofs.lemmas.Bool.{cases_Bool, cases_lt, cases_eq, eqb-true, eqb-false, ne_eqb, le-leb, leb-true, lt-ltb, le-ltb, and_parts, and_from}
 use Rattle.std.specs.Option.{option_map, ok_or}
-use Rattle.std.specs.List.{between, flat_map, AllByRecursion as All}
+use Rattle.std.specs.List.{between, flat_map, AllByRecursion}
 use Rattle.std.proofs.lemmas.List.{drop_at}
 use Rattle.workshop.specs.Columns.{ColumnsAgree, ColumnsSideBySide, column_of, digit_at, digits_after, field_at, is_digit, natural_in, negative, number_in, number_then, numbers_behind, signed_in, zero_then}
 
@@ -175,7 +175,7 @@ unfolding wide
 columns_agree n small = (number_read 5 n (omega arith), only_column n)
 
 -- columns side by side are read again, in their order
-columns_behind : (i : ℕ) (front : List ℕ) (ns : List ℕ) → length front ≡ 6 * i → All (λ n. n ≤ 999999) ns →
+columns_behind : (i : ℕ) (front : List ℕ) (ns : List ℕ) → length front ≡ 6 * i → AllByRecursion (λ n. n ≤ 999999) ns →
     numbers_behind i (length ns) (front ++ flat_map column_of ns) ≡ Ok (map pos ns)
 unfolding numbers_behind
 columns_behind i front [] long small = refl

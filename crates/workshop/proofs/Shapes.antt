@@ -1,6 +1,6 @@
 -- The shape of a report.
 use Rattle.std.proofs.Common.{◌≡◌, ℕ, suc, ◌+◌, ltb, List, [], ◌∷◌, ◌++◌, map, length, take, Ok, Err, refl, ap, ◌∙◌, inl, inr, arith}
-use Rattle.std.specs.List.{flat_map, AllByRecursion as All}
+use Rattle.std.specs.List.{flat_map, AllByRecursion}
 use Rattle.std.proofs.lemmas.Bool.{cases_Bool, ltb-true, ltb-false}
 use Rattle.workshop.specs.declared.rows.Row.{Row}
 use Rattle.workshop.specs.Acts.{Done}
@@ -26,7 +26,7 @@ unfolding row_bytes
 ended_rows [] = refl
 ended_rows (r ∷ rs) = ap (λ l. ended (columns_of r) ++ l) (ended_rows rs)
 
-rows_wide : (rs : List Row) → All (λ row. length row ≡ 36) (map columns_of rs)
+rows_wide : (rs : List Row) → AllByRecursion (λ row. length row ≡ 36) (map columns_of rs)
 rows_wide [] = tt
 rows_wide (r ∷ rs) = (refl, rows_wide rs)
 

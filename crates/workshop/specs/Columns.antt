@@ -1,7 +1,7 @@
 -- Numbers in columns: a field is six bytes, a number stands at its right behind spaces.
 use Rattle.std.specs.Prelude.{◌≡◌, ℕ, zero, suc, ◌+◌, ◌-◌, ◌*◌, ◌/◌, ◌%◌, ◌≤◌, Bool, cond, ◌&&◌, List, [], ◌∷◌, map, length, ℤ, pos, neg_ℤ, Some, None, Ok, Err, Option, Result, ◌==◌, nat_le, nat_lt}
 use Rattle.std.specs.Option.{option_map, ok_or}
-use Rattle.std.specs.List.{between, flat_map, AllByRecursion as All}
+use Rattle.std.specs.List.{between, flat_map, AllByRecursion}
 use Rattle.workshop.specs.declared.columns.IllFormed.{IllFormed}
 
 -- the bytes behind the spaces in front
@@ -76,4 +76,4 @@ ColumnsAgree = (n : ℕ) → n ≤ 999999 →
 
 -- So do columns side by side, in their order.
 unfoldable pub ColumnsSideBySide : Type 0
-ColumnsSideBySide = (ns : List ℕ) → All (λ n. n ≤ 999999) ns → numbers_in (length ns) (flat_map column_of ns) ≡ Ok (map pos ns)
+ColumnsSideBySide = (ns : List ℕ) → AllByRecursion (λ n. n ≤ 999999) ns → numbers_in (length ns) (flat_map column_of ns) ≡ Ok (map pos ns)

@@ -1,6 +1,6 @@
 -- What every report looks like, told of its lines.
 use Rattle.std.specs.Prelude.{◌≡◌, ℕ, ◌+◌, ◌≤◌, true, List, [], ◌∷◌, length, take}
-use Rattle.std.specs.List.{flat_map, AllByRecursion as All}
+use Rattle.std.specs.List.{flat_map, AllByRecursion}
 use Rattle.workshop.specs.Columns.{column_of}
 use Rattle.workshop.specs.Lines.{lines_in, line_feeds, ends_line, ended}
 use Rattle.workshop.specs.Report.{report_of}
@@ -19,7 +19,7 @@ NumberedFrom n (row ∷ more) = (take 6 row ≡ column_of n) × NumberedFrom (n 
 abbrev pub ShapedFor : List ℕ → List ℕ → Type 0
 ShapedFor file report =
     (flat_map ended (lines_in report) ≡ report)
-    × All (λ row. length row ≡ 36) (lines_in report)
+    × AllByRecursion (λ row. length row ≡ 36) (lines_in report)
     × (Answerable file → (length (lines_in report) ≡ line_feeds file) × NumberedFrom 1 (lines_in report))
     × ((Answerable file → ⊥) → (length (lines_in report) ≡ 1) × NumberedFrom 0 (lines_in report))
 
