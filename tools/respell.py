@@ -5,8 +5,9 @@
     tools/respell.py --list    prints old and new names, and new names that are in use already
 
 Names are taken from the definitions of crates/*/specs/*.antt and crates/*/proofs/*.antt. They are replaced, as whole
-words, in those files, in the proof files of functions, and in contracts and imports of src/; comments, strings and the
-names of Rust items stay as they are.
+words, in those files, in the proof files of functions, and in contracts and imports of src/. Comments stay as they are,
+and so do the names of Rust items and the strings of src/, none of which has such a name. Names that an import gives by
+`as` are not among them.
 """
 import glob
 import re

@@ -13,8 +13,8 @@ use Rattle.strength.specs.declared.BoltClause.{BoltClause as BoltStrength}
 use Rattle.strength.specs.declared.BoltClause.TheVariants.{Shear, Tension, Combined, Bearing, Gross, Net}
 use Rattle.strength.specs.declared.WeldClause.{WeldClause as WeldStrength}
 use Rattle.strength.specs.declared.WeldClause.TheVariants.{CombinedStress, NormalStress}
-use Rattle.strength.specs.Strength.{bolt_clause_numbered as bolt-strength-numbered, weld_clause_numbered as weld-strength-numbered, bolts_hold, welds_hold}
-use Rattle.annex.specs.Worked.{plates, factors_en, layout_j, throats_k, force_1_alone, WorkedJoints}
+use Rattle.strength.specs.Strength.{bolt_clause_numbered as bolt_strength_numbered, weld_clause_numbered as weld_strength_numbered, bolts_hold, welds_hold}
+use Rattle.annex.specs.Worked.{plate_pair, factors_en, layout_j, throats_k, force_1_alone, WorkedJoints}
 use Rattle.annex.specs.Forms.{any_met}
 
 joint_laid_out : (m : Make) (clause : BoltClause) → bolts_laid_out m layout_j 10 clause ≡ true
@@ -37,7 +37,7 @@ welds_laid_out SeA MinLength = refl
 welds_laid_out m MinSlenderness = refl
 welds_laid_out m MaxSlenderness = refl
 
-joint_holds : (clause : BoltStrength) → bolts_hold (record { make = En; factors = factors_en }) layout_j plates (force_1_alone 3000) clause ≡ true
+joint_holds : (clause : BoltStrength) → bolts_hold (record { make = En; factors = factors_en }) layout_j plate_pair (force_1_alone 3000) clause ≡ true
 joint_holds Shear = refl
 joint_holds Tension = refl
 joint_holds Combined = refl
@@ -50,7 +50,7 @@ joint_holds (Gross B) = refl
 joint_holds (Net A) = refl
 joint_holds (Net B) = refl
 
-weld_holds : (clause : WeldStrength) → welds_hold (record { make = En; factors = factors_en }) throats_k plates (record { s1 = 3000; s2 = 2000; s3 = 0 }) clause ≡ true
+weld_holds : (clause : WeldStrength) → welds_hold (record { make = En; factors = factors_en }) throats_k plate_pair (record { s1 = 3000; s2 = 2000; s3 = 0 }) clause ≡ true
 weld_holds CombinedStress = refl
 weld_holds NormalStress = refl
 
@@ -63,7 +63,7 @@ worked_joints = (
     λ k n. any_met (weld_clause_numbered k) _ (welds_laid_out En),
     λ k n. any_met (weld_clause_numbered k) _ (welds_laid_out SeA),
   ),
-  (λ k n. any_met (bolt-strength-numbered k) _ joint_holds, λ k n. any_met (weld-strength-numbered En k) _ weld_holds),
+  (λ k n. any_met (bolt_strength_numbered k) _ joint_holds, λ k n. any_met (weld_strength_numbered En k) _ weld_holds),
   ((refl, refl), (refl, refl)),
   (refl, refl),
   ((refl, refl), (refl, refl)),

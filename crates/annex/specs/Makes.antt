@@ -3,7 +3,7 @@ use Rattle.std.specs.Prelude.{◌≤◌, ℤ, Ok, Result}
 use Rattle.parts.specs.declared.limits.OutOfLimits.{OutOfLimits}
 use Rattle.parts.specs.declared.annexes.AnnexEntry.{AnnexEntry}
 use Rattle.stock.specs.declared.makes.Make.{Make}
-use Rattle.stock.specs.declared.makes.Make.TheVariants.{En as en-make, SeA as sea-make}
+use Rattle.stock.specs.declared.makes.Make.TheVariants.{En as en_make, SeA as sea_make}
 use Rattle.parts.specs.Limits.{at_field, and_then}
 use Rattle.stock.specs.Tables.{make_numbered}
 use Rattle.components.specs.declared.Component.{Component}
@@ -15,7 +15,7 @@ use Rattle.strength.specs.Strength.{strength_met}
 use Rattle.annex.specs.declared.en.En.{En}
 use Rattle.annex.specs.declared.sea.SeA.{SeA}
 use Rattle.annex.specs.declared.chosen.Chosen.{Chosen}
-use Rattle.annex.specs.declared.chosen.Chosen.TheVariants.{En as chose-en, SeA as chose-sea}
+use Rattle.annex.specs.declared.chosen.Chosen.TheVariants.{En as chose_en, SeA as chose_sea}
 use Rattle.annex.specs.Meaning.{Meaning}
 use Rattle.annex.specs.Facts.{AtLeastAsStrict}
 
@@ -23,10 +23,10 @@ abbrev pub rules_meaning : Rules → Meaning
 rules_meaning r = record { layout = layout_met r.make; strength = strength_met r }
 
 abbrev pub en_rules : En → Rules
-en_rules x = record { make = en-make; factors = x.factors }
+en_rules x = record { make = en_make; factors = x.factors }
 
 abbrev pub sea_rules : SeA → Rules
-sea_rules x = record { make = sea-make; factors = x.factors }
+sea_rules x = record { make = sea_make; factors = x.factors }
 
 abbrev pub en_meaning : En → Meaning
 en_meaning x = rules_meaning (en_rules x)
@@ -35,8 +35,8 @@ abbrev pub sea_meaning : SeA → Meaning
 sea_meaning x = rules_meaning (sea_rules x)
 
 abbrev pub chosen_meaning : Chosen → Meaning
-chosen_meaning (chose-en x) = en_meaning x
-chosen_meaning (chose-sea x) = sea_meaning x
+chosen_meaning (chose_en x) = en_meaning x
+chosen_meaning (chose_sea x) = sea_meaning x
 
 -- the annex with these factors, or the first of them that is outside its limits
 abbrev pub en_made : ℤ → ℤ → Result En OutOfLimits
@@ -46,8 +46,8 @@ abbrev pub sea_made : ℤ → ℤ → Result SeA OutOfLimits
 sea_made gamma0 gamma2 = and_then (factors_checked gamma0 gamma2) (λ f. Ok (record { factors = f }))
 
 abbrev pub of_make : Make → ℤ → ℤ → Result Chosen OutOfLimits
-of_make en-make gamma0 gamma2 = and_then (en_made gamma0 gamma2) (λ x. Ok (chose-en x))
-of_make sea-make gamma0 gamma2 = and_then (sea_made gamma0 gamma2) (λ x. Ok (chose-sea x))
+of_make en_make gamma0 gamma2 = and_then (en_made gamma0 gamma2) (λ x. Ok (chose_en x))
+of_make sea_make gamma0 gamma2 = and_then (sea_made gamma0 gamma2) (λ x. Ok (chose_sea x))
 
 -- the annex that an entry chooses, or its first field outside the limits
 abbrev pub annex_made : AnnexEntry → Result Chosen OutOfLimits

@@ -19,15 +19,15 @@ use Rattle.annex.specs.Makes.{en_meaning, sea_meaning}
 abbrev plate : ℕ → Plate
 plate n = record { mark = n; thickness = 10; grade = S275 }
 
-abbrev pub plates : Plates
-plates = record { plate_a = plate 1; plate_b = plate 2 }
+abbrev pub plate_pair : Plates
+plate_pair = record { plate_a = plate 1; plate_b = plate 2 }
 
 -- bolts M20 of class 8.8: rows, columns, e1, p1, e2, p2
 abbrev layout_of : ℕ → ℕ → ℕ → ℕ → ℕ → ℕ → BoltLayout
 layout_of n m a1 b1 a2 b2 = record { size = M20; class = C88; rows = n; columns = m; e1 = a1; p1 = b1; e2 = a2; p2 = b2 }
 
 abbrev bolted : BoltLayout → Component
-bolted l = Bolted (record { mark = 7; plate_a = 1; plate_b = 2; layout = l }) plates
+bolted l = Bolted (record { mark = 7; plate_a = 1; plate_b = 2; layout = l }) plate_pair
 
 -- four of them, by their end and edge distances
 abbrev joint : ℕ → ℕ → Component
@@ -48,7 +48,7 @@ abbrev pub throats_k : Weld
 throats_k = record { mark = 8; plate_a = 1; plate_b = 2; throat = 50; length = 200 }
 
 abbrev pub weld_k : Component
-weld_k = Welded throats_k plates
+weld_k = Welded throats_k plate_pair
 
 abbrev pub factors_en : Factors
 factors_en = record { gamma_m0 = 100; gamma_m2 = 125 }

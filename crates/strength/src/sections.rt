@@ -19,12 +19,10 @@ impl Rules {
     pub(crate) fn gross_met(&self, layout: &BoltLayout, plate: Plate, sizes: Sizes) -> bool
         ensures { result ≡ gross_met self.now layout.now plate sizes }
     {
-        let strength = u32::from(plate.thickness)
-            * u32::from(
-                plate
-                    .grade
-                    .yield_strength_by_thickness(self.make, plate.thickness),
-            );
+        let yield_strength = plate
+            .grade
+            .yield_strength_by_thickness(self.make, plate.thickness);
+        let strength = u32::from(plate.thickness) * u32::from(yield_strength);
         product_u64(u32::from(self.factors.gamma_m0), sizes.s1)
             <= product_u64(layout.width(), strength)
     }
