@@ -32,7 +32,7 @@ impl Chosen {
         ensures worked { WorkedJoints }
     {
         worked_joints();
-        match Make::numbered(entry.make).ok_or(OutOfLimits { field: 1 })? {
+        match Make::try_from(entry.make).or(Err(OutOfLimits { field: 1 }))? {
             Make::En => Ok(Chosen::En(En::new(entry.gamma_m0, entry.gamma_m2)?)),
             Make::SeA => Ok(Chosen::SeA(SeA::new(entry.gamma_m0, entry.gamma_m2)?)),
         }

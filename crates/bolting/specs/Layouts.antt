@@ -21,3 +21,7 @@ spacing_in Across g = record { lines = g.columns; end = g.e2; pitch = g.p2 }
 -- one row (column) alone has no pitch
 abbrev pub single : Spacing → Bool
 single s = nat_le s.lines 1
+
+abbrev pub other_direction : Direction → Direction
+other_direction Along = Across
+other_direction Across = Along

@@ -1,14 +1,15 @@
 ghost use Rattle.std.specs.Prelude.{◌≡◌};
 ghost use Rattle.bolting.specs.Groups.{group_mark, group_fields, group_checked, layout_checked};
-ghost use Rattle.bolting.specs.Layouts.{bolt_count, plate_width, spacing_in, single};
+ghost use Rattle.bolting.specs.Layouts.{bolt_count, other_direction, plate_width, spacing_in, single};
 
+use parts::entries::Entry;
 use parts::limits::{OutOfLimits, limited, mark, pitch, second_plate};
 use register::Numbered;
 use stock::bolts::{BoltClass, BoltSize};
 
 // Equal bolts in rows and columns. In mm: end distance e1 and pitch p1 along the rows, edge distance
 // e2 and spacing p2 across them. A pitch (spacing) without a second row (column) is 0.
-#[derive(Clone, Copy)]
+#[derive(Clone, Copy, Debug, PartialEq, Eq)]
 pub struct BoltLayout {
     pub size: BoltSize,
     pub class: BoltClass,
@@ -21,15 +22,27 @@ pub struct BoltLayout {
 }
 
 // The two directions of a layout: along it, from row to row; across it, from column to column.
-#[derive(Clone, Copy)]
+#[derive(Clone, Copy, Debug, PartialEq, Eq)]
 pub enum Direction {
     Along,
     Across,
 }
 
+impl Direction {
+    // The direction across this one.
+    pub fn other(self) -> Direction
+        ensures { result ≡ other_direction self }
+    {
+        match self {
+            Direction::Along => Direction::Across,
+            Direction::Across => Direction::Along,
+        }
+    }
+}
+
 // A layout seen in one direction: how many lines of bolts come one behind the other, how far the
 // outermost is from the end of the plate, and the pitch from each to the next.
-#[derive(Clone, Copy)]
+#[derive(Clone, Copy, Debug, PartialEq, Eq)]
 pub struct Spacing {
     pub lines: u8,
     pub end: u16,
@@ -80,7 +93,7 @@ impl BoltLayout {
 }
 
 // Bolts that join two plates, named by their marks.
-#[derive(Clone, Copy)]
+#[derive(Clone, Copy, Debug, PartialEq, Eq)]
 pub struct BoltGroup {
     pub mark: u16,
     pub plate_a: u16,
@@ -97,7 +110,7 @@ impl Numbered for BoltGroup {
 }
 
 // A bolt group as it comes from a file.
-#[derive(Clone, Copy)]
+#[derive(Clone, Copy, Debug, PartialEq, Eq)]
 pub struct BoltGroupEntry {
     pub mark: i32,
     pub plate_a: i32,
@@ -112,11 +125,11 @@ pub struct BoltGroupEntry {
     pub p2: i32,
 }
 
-impl BoltGroupEntry {
+impl From<[i32; 11]> for BoltGroupEntry {
+    ghost from_gives = { λ fields r. r ≡ group_fields fields };
+
     // The entry with these numbers, in the order of its fields.
-    pub fn new(fields: [i32; 11]) -> BoltGroupEntry
-        ensures { result ≡ group_fields fields }
-    {
+    fn from(fields: [i32; 11]) -> BoltGroupEntry {
         let [
             mark,
             plate_a,
@@ -144,11 +157,14 @@ impl BoltGroupEntry {
             p2,
         }
     }
+}
 
-    // The record, or the first field outside its limits.
-    pub fn checked(&self) -> Result<BoltGroup, OutOfLimits>
-        ensures { result ≡ group_checked self.now }
-    {
+impl Entry for BoltGroupEntry {
+    type Record = BoltGroup;
+
+    ghost checked = { group_checked };
+
+    fn checked(&self) -> Result<BoltGroup, OutOfLimits> {
         let mark_in = mark(self.mark).ok_or(OutOfLimits { field: 1 })?;
         let plate_a = mark(self.plate_a).ok_or(OutOfLimits { field: 2 })?;
         let plate_b = second_plate(self.plate_b, plate_a).ok_or(OutOfLimits { field: 3 })?;
@@ -160,12 +176,15 @@ impl BoltGroupEntry {
             layout,
         })
     }
+}
 
+impl BoltGroupEntry {
+    // The layout, or the first of its fields that is outside its limits.
     fn checked_layout(&self) -> Result<BoltLayout, OutOfLimits>
         ensures { result ≡ layout_checked self.now }
     {
-        let size = BoltSize::numbered(self.size).ok_or(OutOfLimits { field: 4 })?;
-        let class = BoltClass::numbered(self.class).ok_or(OutOfLimits { field: 5 })?;
+        let size = BoltSize::try_from(self.size).or(Err(OutOfLimits { field: 4 }))?;
+        let class = BoltClass::try_from(self.class).or(Err(OutOfLimits { field: 5 }))?;
         let rows = limited(self.rows, 1, 10).ok_or(OutOfLimits { field: 6 })? as u8;
         let columns = limited(self.columns, 1, 4).ok_or(OutOfLimits { field: 7 })? as u8;
         let e1 = limited(self.e1, 1, 400).ok_or(OutOfLimits { field: 8 })?;

@@ -12,14 +12,14 @@ use stock::makes::Make;
 use stock::steel::Grade;
 
 // One of the two plates of a component.
-#[derive(Clone, Copy)]
+#[derive(Clone, Copy, Debug, PartialEq, Eq)]
 pub enum Side {
     A,
     B,
 }
 
 // The plates that a component joins.
-#[derive(Clone, Copy)]
+#[derive(Clone, Copy, Debug, PartialEq, Eq)]
 pub struct Plates {
     pub plate_a: Plate,
     pub plate_b: Plate,
@@ -57,14 +57,14 @@ impl Plates {
 }
 
 // What joins two plates, with these.
-#[derive(Clone, Copy)]
+#[derive(Clone, Copy, Debug, PartialEq, Eq)]
 pub enum Component {
     Bolted(BoltGroup, Plates),
     Welded(Weld, Plates),
 }
 
 // Three forces on a component without their signs, in tenths of a kN.
-#[derive(Clone, Copy)]
+#[derive(Clone, Copy, Debug, PartialEq, Eq)]
 pub struct Sizes {
     pub s1: u32,
     pub s2: u32,

@@ -3,26 +3,26 @@ use Rattle.std.specs.Prelude.{ℕ, cond, List, ℤ, pos, negsuc, Some, None, Ok,
 use Rattle.parts.specs.declared.limits.OutOfLimits.{OutOfLimits}
 use Rattle.parts.specs.declared.plates.Plate.{Plate}
 use Rattle.parts.specs.declared.welds.Weld.{Weld}
-use Rattle.parts.specs.declared.annexes.Make.{Make}
-use Rattle.parts.specs.declared.annexes.Make.TheVariants.{En, SeA}
-use Rattle.parts.specs.declared.annexes.AnnexChoice.{AnnexChoice}
+use Rattle.parts.specs.declared.annexes.Factors.{Factors}
+use Rattle.parts.specs.declared.annexes.Rules.{Rules}
 use Rattle.parts.specs.declared.annexes.AnnexEntry.{AnnexEntry}
 use Rattle.parts.specs.declared.plates.PlateEntry.{PlateEntry}
 use Rattle.parts.specs.declared.welds.WeldEntry.{WeldEntry}
-use Rattle.parts.specs.Limits.{within, mark_in, other_mark, at_field}
-use Rattle.stock.specs.Tables.{grade_numbered}
+use Rattle.parts.specs.Limits.{within, mark_in, other_mark, at_field, and_then}
+use Rattle.stock.specs.Tables.{make_numbered, grade_numbered}
 
--- 1 is EN, 2 is SE-A
-abbrev pub make_numbered : ℤ → Option Make
-make_numbered (pos n) = cond (n == 1) (Some En) (cond (n == 2) (Some SeA) None)
-make_numbered (negsuc n) = None
+-- each factor is 1.00 to 2.00; in the entry of an annex they are the second and the third field
+abbrev pub factors_checked : ℤ → ℤ → Result Factors OutOfLimits
+factors_checked gamma0 gamma2 =
+    at_field 2 (within 100 200 gamma0) (λ g0.
+    at_field 3 (within 100 200 gamma2) (λ g2.
+    Ok (record { gamma_m0 = g0; gamma_m2 = g2 })))
 
-abbrev pub annex_checked : AnnexEntry → Result AnnexChoice OutOfLimits
+abbrev pub annex_checked : AnnexEntry → Result Rules OutOfLimits
 annex_checked x =
     at_field 1 (make_numbered x.make) (λ m.
-    at_field 2 (within 100 200 x.gamma_m0) (λ g0.
-    at_field 3 (within 100 200 x.gamma_m2) (λ g2.
-    Ok (record { make = m; gamma_m0 = g0; gamma_m2 = g2 }))))
+    and_then (factors_checked x.gamma_m0 x.gamma_m2) (λ f.
+    Ok (record { make = m; factors = f })))
 
 abbrev pub plate_checked : PlateEntry → Result Plate OutOfLimits
 plate_checked x =

@@ -3,6 +3,7 @@
 #![tactic(auto)]
 
 pub mod annexes;
+pub mod entries;
 pub mod limits;
 pub mod loads;
 pub mod plates;

@@ -2,7 +2,7 @@ ghost use Rattle.std.specs.Prelude.{◌≡◌};
 ghost use Rattle.parts.specs.Limits.{within, mark_in, other_mark, pitch_in};
 
 // The first field of an entry that is outside its limits, counted from 1.
-#[derive(Clone, Copy)]
+#[derive(Clone, Copy, Debug, PartialEq, Eq)]
 pub struct OutOfLimits {
     pub field: u8,
 }
@@ -11,11 +11,7 @@ pub struct OutOfLimits {
 pub fn limited(value: i32, low: u16, high: u16) -> Option<u16>
     ensures { result ≡ within low high value }
 {
-    if value >= i32::from(low) && value <= i32::from(high) {
-        Some(value as u16)
-    } else {
-        None
-    }
+    u16::try_from(value).ok().filter(|&n| low <= n && n <= high)
 }
 
 // A mark or a load number.
@@ -29,10 +25,7 @@ pub fn mark(value: i32) -> Option<u16>
 pub fn second_plate(value: i32, first: u16) -> Option<u16>
     ensures { result ≡ other_mark first value }
 {
-    match mark(value) {
-        Some(second) if second != first => Some(second),
-        _ => None,
-    }
+    mark(value).filter(|&second| second != first)
 }
 
 // The distance between neighbouring rows (columns): none where there is one alone.

@@ -4,7 +4,7 @@ ghost use Rattle.parts.specs.Numbers.{load_number};
 use register::Numbered;
 
 // Three forces on a component, in tenths of a kN.
-#[derive(Clone, Copy)]
+#[derive(Clone, Copy, Debug, PartialEq, Eq)]
 pub struct Load {
     pub number: u16,
     pub component: u16,

@@ -2,12 +2,13 @@ ghost use Rattle.std.specs.Prelude.{◌≡◌};
 ghost use Rattle.parts.specs.Entries.{plate_fields, plate_checked};
 ghost use Rattle.parts.specs.Numbers.{plate_mark};
 
+use crate::entries::Entry;
 use crate::limits::{OutOfLimits, limited, mark};
 use register::Numbered;
 use stock::steel::Grade;
 
 // A plate; its thickness in mm.
-#[derive(Clone, Copy)]
+#[derive(Clone, Copy, Debug, PartialEq, Eq)]
 pub struct Plate {
     pub mark: u16,
     pub thickness: u8,
@@ -23,18 +24,18 @@ impl Numbered for Plate {
 }
 
 // A plate as it comes from a file.
-#[derive(Clone, Copy)]
+#[derive(Clone, Copy, Debug, PartialEq, Eq)]
 pub struct PlateEntry {
     pub mark: i32,
     pub thickness: i32,
     pub grade: i32,
 }
 
-impl PlateEntry {
+impl From<[i32; 3]> for PlateEntry {
+    ghost from_gives = { λ fields r. r ≡ plate_fields fields };
+
     // The entry with these numbers, in the order of its fields.
-    pub fn new(fields: [i32; 3]) -> PlateEntry
-        ensures { result ≡ plate_fields fields }
-    {
+    fn from(fields: [i32; 3]) -> PlateEntry {
         let [mark, thickness, grade] = fields;
         PlateEntry {
             mark,
@@ -42,14 +43,17 @@ impl PlateEntry {
             grade,
         }
     }
+}
 
-    // The record, or the first field outside its limits.
-    pub fn checked(&self) -> Result<Plate, OutOfLimits>
-        ensures { result ≡ plate_checked self.now }
-    {
+impl Entry for PlateEntry {
+    type Record = Plate;
+
+    ghost checked = { plate_checked };
+
+    fn checked(&self) -> Result<Plate, OutOfLimits> {
         let mark = mark(self.mark).ok_or(OutOfLimits { field: 1 })?;
         let thickness = limited(self.thickness, 4, 40).ok_or(OutOfLimits { field: 2 })? as u8;
-        let grade = Grade::numbered(self.grade).ok_or(OutOfLimits { field: 3 })?;
+        let grade = Grade::try_from(self.grade).or(Err(OutOfLimits { field: 3 }))?;
         Ok(Plate {
             mark,
             thickness,

@@ -2,12 +2,13 @@ ghost use Rattle.std.specs.Prelude.{◌≡◌};
 ghost use Rattle.parts.specs.Entries.{weld_fields, weld_checked};
 ghost use Rattle.parts.specs.Numbers.{weld_mark};
 
+use crate::entries::Entry;
 use crate::limits::{OutOfLimits, limited, mark, second_plate};
 use register::Numbered;
 
 // A pair of fillet welds that joins two plates; the throat in tenths of a mm, the effective length
 // in mm.
-#[derive(Clone, Copy)]
+#[derive(Clone, Copy, Debug, PartialEq, Eq)]
 pub struct Weld {
     pub mark: u16,
     pub plate_a: u16,
@@ -25,7 +26,7 @@ impl Numbered for Weld {
 }
 
 // A pair of welds as it comes from a file.
-#[derive(Clone, Copy)]
+#[derive(Clone, Copy, Debug, PartialEq, Eq)]
 pub struct WeldEntry {
     pub mark: i32,
     pub plate_a: i32,
@@ -34,11 +35,11 @@ pub struct WeldEntry {
     pub length: i32,
 }
 
-impl WeldEntry {
+impl From<[i32; 5]> for WeldEntry {
+    ghost from_gives = { λ fields r. r ≡ weld_fields fields };
+
     // The entry with these numbers, in the order of its fields.
-    pub fn new(fields: [i32; 5]) -> WeldEntry
-        ensures { result ≡ weld_fields fields }
-    {
+    fn from(fields: [i32; 5]) -> WeldEntry {
         let [mark, plate_a, plate_b, throat, length] = fields;
         WeldEntry {
             mark,
@@ -48,11 +49,14 @@ impl WeldEntry {
             length,
         }
     }
+}
 
-    // The record, or the first field outside its limits.
-    pub fn checked(&self) -> Result<Weld, OutOfLimits>
-        ensures { result ≡ weld_checked self.now }
-    {
+impl Entry for WeldEntry {
+    type Record = Weld;
+
+    ghost checked = { weld_checked };
+
+    fn checked(&self) -> Result<Weld, OutOfLimits> {
         let mark_in = mark(self.mark).ok_or(OutOfLimits { field: 1 })?;
         let plate_a = mark(self.plate_a).ok_or(OutOfLimits { field: 2 })?;
         let plate_b = second_plate(self.plate_b, plate_a).ok_or(OutOfLimits { field: 3 })?;

@@ -8,6 +8,7 @@ use annex::chosen::Chosen;
 use bolting::bolt_groups::BoltGroupEntry;
 use components::{Component, Plates, Sizes};
 use parts::annexes::AnnexEntry;
+use parts::entries::Entry;
 use parts::plates::{Plate, PlateEntry};
 use parts::welds::WeldEntry;
 use std::fs;
@@ -22,7 +23,7 @@ fn size(number: i64) -> u32 {
 }
 
 fn plate(mark: i32, thickness: i64, grade: i64) -> Option<Plate> {
-    PlateEntry::new([mark, field(thickness), field(grade)])
+    PlateEntry::from([mark, field(thickness), field(grade)])
         .checked()
         .ok()
 }
@@ -40,7 +41,7 @@ fn plates(numbers: &[i64]) -> Option<Plates> {
 fn component(numbers: &[i64]) -> Option<Component> {
     match numbers {
         [d, class, rows, columns, e1, p1, e2, p2, steel @ ..] if steel.len() == 4 => {
-            let group = BoltGroupEntry::new([
+            let group = BoltGroupEntry::from([
                 7,
                 1,
                 2,
@@ -56,7 +57,7 @@ fn component(numbers: &[i64]) -> Option<Component> {
             Some(Component::Bolted(group.checked().ok()?, plates(steel)?))
         }
         [throat, length, steel @ ..] => {
-            let weld = WeldEntry::new([8, 1, 2, field(*throat), field(*length)]);
+            let weld = WeldEntry::from([8, 1, 2, field(*throat), field(*length)]);
             Some(Component::Welded(weld.checked().ok()?, plates(steel)?))
         }
         _ => None,
@@ -87,7 +88,7 @@ fn agrees(numbers: &[i64]) -> Option<bool> {
     let [clause, s1, s2, s3, answer] = question else {
         return None;
     };
-    let entry = AnnexEntry::new([field(*make), field(*gamma_m0), field(*gamma_m2)]);
+    let entry = AnnexEntry::from([field(*make), field(*gamma_m0), field(*gamma_m2)]);
     let annex = Chosen::new(entry).ok()?;
     let sizes = Sizes {
         s1: size(*s1),

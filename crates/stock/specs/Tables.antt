@@ -1,5 +1,6 @@
 -- The closed lists and their tables.
-use Rattle.std.specs.Prelude.{ℕ, ◌-◌, cond, ℤ, pos, negsuc, Some, None, Option, ◌==◌, nat_lt}
+use Rattle.std.specs.Prelude.{◌≡◌, ℕ, ◌-◌, cond, ℤ, pos, negsuc, Some, None, Option, Result, MatchResult, ◌==◌, nat_lt}
+use Rattle.stock.specs.declared.listed.NotListed.{NotListed}
 use Rattle.stock.specs.declared.makes.Make.{Make}
 use Rattle.stock.specs.declared.makes.Make.TheVariants.{En, SeA}
 use Rattle.stock.specs.declared.steel.Grade.{Grade}
@@ -94,6 +95,10 @@ module _ {X : Type 0} where
   abbrev pub item_or : (X → ℕ) → X → ℤ → Option X → Option X
   item_or number x (pos n) rest = cond (n == number x) (Some x) rest
   item_or number x (negsuc n) rest = rest
+
+  -- the item of that number, or the number that names none
+  abbrev pub Names : (ℤ → Option X) → ℤ → Result X NotListed → Type 0
+  Names numbered z r = MatchResult r (λ x. numbered z ≡ Some x) (λ e. (numbered z ≡ None) × (e.number ≡ z))
 
 abbrev pub make_numbered : ℤ → Option Make
 make_numbered z = item_or make_number En z (item_or make_number SeA z None)

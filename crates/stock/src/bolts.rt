@@ -1,10 +1,11 @@
 ghost use Rattle.std.specs.Prelude.{◌≡◌};
-ghost use Rattle.stock.specs.Tables.{size_numbered, bolt_diameter, hole_diameter, tensile_area, class_numbered, bolt_strength, shear_factor};
+ghost use Rattle.stock.specs.Tables.{Names, size_numbered, bolt_diameter, hole_diameter, tensile_area, class_numbered, bolt_strength, shear_factor};
 
+use crate::listed::NotListed;
 use crate::makes::Make;
 
 // A bolt by its nominal diameter.
-#[derive(Clone, Copy)]
+#[derive(Clone, Copy, Debug, PartialEq, Eq)]
 pub enum BoltSize {
     M16,
     M20,
@@ -13,21 +14,25 @@ pub enum BoltSize {
     M30,
 }
 
-impl BoltSize {
+impl TryFrom<i32> for BoltSize {
+    type Error = NotListed;
+
+    ghost try_from_gives = { Names size_numbered };
+
     // The size that a file names by this number.
-    pub fn numbered(number: i32) -> Option<BoltSize>
-        ensures { result ≡ size_numbered number }
-    {
+    fn try_from(number: i32) -> Result<BoltSize, NotListed> {
         match number {
-            16 => Some(BoltSize::M16),
-            20 => Some(BoltSize::M20),
-            24 => Some(BoltSize::M24),
-            27 => Some(BoltSize::M27),
-            30 => Some(BoltSize::M30),
-            _ => None,
+            16 => Ok(BoltSize::M16),
+            20 => Ok(BoltSize::M20),
+            24 => Ok(BoltSize::M24),
+            27 => Ok(BoltSize::M27),
+            30 => Ok(BoltSize::M30),
+            _ => Err(NotListed { number }),
         }
     }
+}
 
+impl BoltSize {
     // Nominal diameter d in mm.
     pub fn diameter(self) -> u8
         ensures { result ≡ bolt_diameter self }
@@ -69,7 +74,7 @@ impl BoltSize {
 }
 
 // A property class of bolts, 8.8 as `C88`.
-#[derive(Clone, Copy)]
+#[derive(Clone, Copy, Debug, PartialEq, Eq)]
 pub enum BoltClass {
     C46,
     C56,
@@ -78,21 +83,25 @@ pub enum BoltClass {
     C109,
 }
 
-impl BoltClass {
+impl TryFrom<i32> for BoltClass {
+    type Error = NotListed;
+
+    ghost try_from_gives = { Names class_numbered };
+
     // The class that a file names by this number, the point left out.
-    pub fn numbered(number: i32) -> Option<BoltClass>
-        ensures { result ≡ class_numbered number }
-    {
+    fn try_from(number: i32) -> Result<BoltClass, NotListed> {
         match number {
-            46 => Some(BoltClass::C46),
-            56 => Some(BoltClass::C56),
-            68 => Some(BoltClass::C68),
-            88 => Some(BoltClass::C88),
-            109 => Some(BoltClass::C109),
-            _ => None,
+            46 => Ok(BoltClass::C46),
+            56 => Ok(BoltClass::C56),
+            68 => Ok(BoltClass::C68),
+            88 => Ok(BoltClass::C88),
+            109 => Ok(BoltClass::C109),
+            _ => Err(NotListed { number }),
         }
     }
+}
 
+impl BoltClass {
     // Ultimate tensile strength in N/mm².
     pub fn ultimate_strength(self) -> u16
         ensures { result ≡ bolt_strength self }

@@ -2,5 +2,6 @@
 #![tactic(auto)]
 
 pub mod bolts;
+pub mod listed;
 pub mod makes;
 pub mod steel;

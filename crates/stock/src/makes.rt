@@ -1,23 +1,27 @@
 ghost use Rattle.std.specs.Prelude.{◌≡◌};
-ghost use Rattle.stock.specs.Tables.{make_numbered};
+ghost use Rattle.stock.specs.Tables.{Names, make_numbered};
+
+use crate::listed::NotListed;
 
 // The set of rules that a joint is judged by: EN 1993-1-8 with its own values, or SE-A, the steel part of
 // the Spanish building code.
-#[derive(Clone, Copy)]
+#[derive(Clone, Copy, Debug, PartialEq, Eq)]
 pub enum Make {
     En,
     SeA,
 }
 
-impl Make {
+impl TryFrom<i32> for Make {
+    type Error = NotListed;
+
+    ghost try_from_gives = { Names make_numbered };
+
     // The make that a file names by this number.
-    pub fn numbered(number: i32) -> Option<Make>
-        ensures { result ≡ make_numbered number }
-    {
+    fn try_from(number: i32) -> Result<Make, NotListed> {
         match number {
-            1 => Some(Make::En),
-            2 => Some(Make::SeA),
-            _ => None,
+            1 => Ok(Make::En),
+            2 => Ok(Make::SeA),
+            _ => Err(NotListed { number }),
         }
     }
 }

@@ -1,29 +1,34 @@
 ghost use Rattle.std.specs.Prelude.{◌≡◌};
-ghost use Rattle.stock.specs.Tables.{grade_numbered, nominal_yield, yield_strength, ultimate_strength, weld_correlation};
+ghost use Rattle.stock.specs.Tables.{Names, grade_numbered, nominal_yield, yield_strength, ultimate_strength, weld_correlation};
 
+use crate::listed::NotListed;
 use crate::makes::Make;
 
 // A structural steel by the number of its nominal yield strength.
-#[derive(Clone, Copy)]
+#[derive(Clone, Copy, Debug, PartialEq, Eq)]
 pub enum Grade {
     S235,
     S275,
     S355,
 }
 
-impl Grade {
+impl TryFrom<i32> for Grade {
+    type Error = NotListed;
+
+    ghost try_from_gives = { Names grade_numbered };
+
     // The grade that a file names by this number.
-    pub fn numbered(number: i32) -> Option<Grade>
-        ensures { result ≡ grade_numbered number }
-    {
+    fn try_from(number: i32) -> Result<Grade, NotListed> {
         match number {
-            235 => Some(Grade::S235),
-            275 => Some(Grade::S275),
-            355 => Some(Grade::S355),
-            _ => None,
+            235 => Ok(Grade::S235),
+            275 => Ok(Grade::S275),
+            355 => Ok(Grade::S355),
+            _ => Err(NotListed { number }),
         }
     }
+}
 
+impl Grade {
     // Nominal yield strength in N/mm².
     pub fn yield_strength(self) -> u16
         ensures { result ≡ nominal_yield self }

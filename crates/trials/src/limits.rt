@@ -2,32 +2,33 @@
 
 use bolting::bolt_groups::BoltGroupEntry;
 use parts::annexes::AnnexEntry;
+use parts::entries::Entry;
 use parts::plates::PlateEntry;
 use parts::welds::WeldEntry;
 
 fn annex_fault(fields: [i32; 3]) -> u8 {
-    match AnnexEntry::new(fields).checked() {
+    match AnnexEntry::from(fields).checked() {
         Ok(_) => 0,
         Err(fault) => fault.field,
     }
 }
 
 fn plate_fault(fields: [i32; 3]) -> u8 {
-    match PlateEntry::new(fields).checked() {
+    match PlateEntry::from(fields).checked() {
         Ok(_) => 0,
         Err(fault) => fault.field,
     }
 }
 
 fn group_fault(fields: [i32; 11]) -> u8 {
-    match BoltGroupEntry::new(fields).checked() {
+    match BoltGroupEntry::from(fields).checked() {
         Ok(_) => 0,
         Err(fault) => fault.field,
     }
 }
 
 fn weld_fault(fields: [i32; 5]) -> u8 {
-    match WeldEntry::new(fields).checked() {
+    match WeldEntry::from(fields).checked() {
         Ok(_) => 0,
         Err(fault) => fault.field,
     }

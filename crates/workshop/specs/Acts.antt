@@ -1,7 +1,7 @@
 -- What the numbers of a line's fields do to the book.
 use Rattle.std.specs.Prelude.{List, ℤ, Ok, Err, Result}
 use Rattle.parts.specs.declared.limits.OutOfLimits.{OutOfLimits as LimitFault}
-use Rattle.parts.specs.declared.annexes.AnnexChoice.{AnnexChoice}
+use Rattle.parts.specs.declared.annexes.Rules.{Rules}
 use Rattle.parts.specs.Entries.{annex_checked, nth, annex_fields, plate_fields, weld_fields}
 use Rattle.bolting.specs.Groups.{group_fields}
 use Rattle.book.specs.declared.tables.Tables.{Tables}
@@ -17,11 +17,11 @@ abbrev pub Done : Type 0
 Done = Result (Unit {0}) Fault
 
 -- the annex that an A chooses
-abbrev pub in_limits : Result AnnexChoice LimitFault → Result AnnexChoice Fault
+abbrev pub in_limits : Result Rules LimitFault → Result Rules Fault
 in_limits (Ok a) = Ok a
 in_limits (Err o) = Err (of_choice o)
 
-abbrev pub beginning : Fields → Result AnnexChoice Fault
+abbrev pub beginning : Fields → Result Rules Fault
 beginning (Err e) = Err (of_column e)
 beginning (Ok zs) = in_limits (annex_checked (annex_fields zs))
 

@@ -1,6 +1,6 @@
 -- What a line does: the stage that the file has come to, and the letter, decide together.
 use Rattle.std.specs.Prelude.{ℕ, cond, List, [], ◌∷◌, Some, None, Ok, Err, Option, Result}
-use Rattle.parts.specs.declared.annexes.AnnexChoice.{AnnexChoice}
+use Rattle.parts.specs.declared.annexes.Rules.{Rules}
 use Rattle.book.specs.declared.tables.Tables.{Tables}
 use Rattle.book.specs.declared.tables.Places.{Places}
 use Rattle.book.specs.Tables.{empty_tables}
@@ -17,7 +17,7 @@ use Rattle.workshop.specs.Acts.{Done, beginning, plate_act, plate_after, group_a
 -- how far a file has come, and what its book then holds
 pub data State : Type 0 where
   start : State
-  draft : AnnexChoice → Tables → State
+  draft : Rules → Tables → State
 
 abbrev pub state_of : Stage → State
 state_of Start = start
@@ -35,7 +35,7 @@ abbrev pub outcome : Stage × Done → Step
 outcome r = (state_of r.0, r.1)
 
 -- an A that is done begins a book
-abbrev pub begin_step : Result AnnexChoice Fault → Step
+abbrev pub begin_step : Result Rules Fault → Step
 begin_step (Ok a) = (draft a (empty_tables all_places), Ok tt)
 begin_step (Err f) = (start, Err f)
 

@@ -6,50 +6,51 @@ use crate::columns::numbers;
 use crate::faults::Fault;
 use bolting::bolt_groups::BoltGroupEntry;
 use book::drafting::Drafting;
-use parts::annexes::{AnnexChoice, AnnexEntry};
+use parts::annexes::{AnnexEntry, Rules};
+use parts::entries::Entry;
 use parts::plates::PlateEntry;
 use parts::welds::WeldEntry;
 
 // The annex that the columns choose.
-pub(crate) fn chosen_annex(columns: &[u8]) -> Result<AnnexChoice, Fault>
+pub(crate) fn chosen_annex(columns: &[u8]) -> Result<Rules, Fault>
     requires { length columns.now ≡ 6 * 3 }
     ensures { result ≡ beginning (numbers_in 3 columns.now) }
 {
-    let entry = AnnexEntry::new(numbers(columns)?);
+    let entry = AnnexEntry::from(numbers(columns)?);
     Ok(entry.checked()?)
 }
 
-pub(crate) fn add_plate(book: &mut Drafting<AnnexChoice>, columns: &[u8]) -> Result<(), Fault>
+pub(crate) fn add_plate(book: &mut Drafting<Rules>, columns: &[u8]) -> Result<(), Fault>
     requires { length columns.now ≡ 6 * 3 }
     ensures answer { result ≡ plate_act book.old.tables (numbers_in 3 columns.now) }
     ensures annex { book.new.annex ≡ book.old.annex }
     ensures tables { book.new.tables ≡ plate_after book.old.tables (numbers_in 3 columns.now) }
 {
-    let entry = PlateEntry::new(numbers(columns)?);
+    let entry = PlateEntry::from(numbers(columns)?);
     Ok(book.add_plate(entry)?)
 }
 
-pub(crate) fn add_bolt_group(book: &mut Drafting<AnnexChoice>, columns: &[u8]) -> Result<(), Fault>
+pub(crate) fn add_bolt_group(book: &mut Drafting<Rules>, columns: &[u8]) -> Result<(), Fault>
     requires { length columns.now ≡ 6 * 11 }
     ensures answer { result ≡ group_act book.old.tables (numbers_in 11 columns.now) }
     ensures annex { book.new.annex ≡ book.old.annex }
     ensures tables { book.new.tables ≡ group_after book.old.tables (numbers_in 11 columns.now) }
 {
-    let entry = BoltGroupEntry::new(numbers(columns)?);
+    let entry = BoltGroupEntry::from(numbers(columns)?);
     Ok(book.add_bolt_group(entry)?)
 }
 
-pub(crate) fn add_weld(book: &mut Drafting<AnnexChoice>, columns: &[u8]) -> Result<(), Fault>
+pub(crate) fn add_weld(book: &mut Drafting<Rules>, columns: &[u8]) -> Result<(), Fault>
     requires { length columns.now ≡ 6 * 5 }
     ensures answer { result ≡ weld_act book.old.tables (numbers_in 5 columns.now) }
     ensures annex { book.new.annex ≡ book.old.annex }
     ensures tables { book.new.tables ≡ weld_after book.old.tables (numbers_in 5 columns.now) }
 {
-    let entry = WeldEntry::new(numbers(columns)?);
+    let entry = WeldEntry::from(numbers(columns)?);
     Ok(book.add_weld(entry)?)
 }
 
-pub(crate) fn strike(book: &mut Drafting<AnnexChoice>, columns: &[u8]) -> Result<(), Fault>
+pub(crate) fn strike(book: &mut Drafting<Rules>, columns: &[u8]) -> Result<(), Fault>
     requires { length columns.now ≡ 6 * 1 }
     ensures answer { result ≡ strike_act book.old.tables (numbers_in 1 columns.now) }
     ensures annex { book.new.annex ≡ book.old.annex }

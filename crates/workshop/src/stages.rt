@@ -8,18 +8,18 @@ use crate::faults::Fault;
 use crate::letters::Letter;
 use book::drafting::Drafting;
 use book::tables::Places;
-use parts::annexes::AnnexChoice;
+use parts::annexes::Rules;
 
 // How far a file has come.
 #[derive(Drop)]
 pub enum Stage {
     // no annex is chosen yet
     Start,
-    Drafting(Drafting<AnnexChoice>),
+    Drafting(Drafting<Rules>),
 }
 
 // The program's books have all the places there are.
-fn begun(choice: AnnexChoice) -> Drafting<AnnexChoice>
+fn begun(choice: Rules) -> Drafting<Rules>
     ensures annex { result.annex ≡ choice }
     ensures tables { result.tables ≡ empty_tables all_places }
 {

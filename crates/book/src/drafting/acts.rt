@@ -7,6 +7,7 @@ use crate::drafting::Drafting;
 use crate::refusals::Refusal;
 use crate::tables::{Places, Tables};
 use bolting::bolt_groups::BoltGroupEntry;
+use parts::entries::Entry;
 use parts::limits::{OutOfLimits, mark};
 use parts::plates::PlateEntry;
 use parts::welds::WeldEntry;
