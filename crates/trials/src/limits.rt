@@ -5,32 +5,19 @@ use parts::annexes::AnnexEntry;
 use parts::entries::Entry;
 use parts::plates::PlateEntry;
 use parts::welds::WeldEntry;
+use std::process::Abort;
 
-fn annex_fault(fields: [i32; 3]) -> u8 {
-    match AnnexEntry::from(fields).checked() {
-        Ok(_) => 0,
-        Err(fault) => fault.field,
-    }
-}
-
-fn plate_fault(fields: [i32; 3]) -> u8 {
-    match PlateEntry::from(fields).checked() {
-        Ok(_) => 0,
-        Err(fault) => fault.field,
-    }
-}
-
-fn group_fault(fields: [i32; 11]) -> u8 {
-    match BoltGroupEntry::from(fields).checked() {
-        Ok(_) => 0,
-        Err(fault) => fault.field,
-    }
-}
-
-fn weld_fault(fields: [i32; 5]) -> u8 {
-    match WeldEntry::from(fields).checked() {
-        Ok(_) => 0,
-        Err(fault) => fault.field,
+// Does each row of numbers, as an entry, have the field outside its limits that stands beside it, or none (0)?
+fn check_limits<E: Entry + From<[i32; N]> + Copy, const N: usize>(
+    rt: &impl Abort,
+    cases: &[([i32; N], u8)],
+)
+where
+    E::Record: Copy,
+{
+    for (numbers, field) in cases {
+        let fault = E::from(*numbers).checked().err();
+        assert_eq!(rt; fault.map_or(0, |fault| fault.field), *field);
     }
 }
 
@@ -47,9 +34,7 @@ fn annex_limits(rt: HostRuntime) {
         ([1, 100, 99], 3),
         ([2, 100, 201], 3),
     ];
-    for (entry, field) in cases {
-        assert_eq!(rt; annex_fault(entry), field);
-    }
+    check_limits::<AnnexEntry, _>(&rt, &cases);
 }
 
 #[test]
@@ -67,9 +52,7 @@ fn plate_limits(rt: HostRuntime) {
         ([1, 4, 276], 3),
         ([1, 4, -355], 3),
     ];
-    for (entry, field) in cases {
-        assert_eq!(rt; plate_fault(entry), field);
-    }
+    check_limits::<PlateEntry, _>(&rt, &cases);
 }
 
 #[test]
@@ -104,9 +87,7 @@ fn group_limits(rt: HostRuntime) {
         ([7, 1, 2, 20, 88, 2, 2, 40, 70, 40, 401], 11),
         ([7, 1, 2, 20, 88, 2, 1, 40, 70, 40, 1], 11),
     ];
-    for (entry, field) in cases {
-        assert_eq!(rt; group_fault(entry), field);
-    }
+    check_limits::<BoltGroupEntry, _>(&rt, &cases);
 }
 
 #[test]
@@ -126,7 +107,5 @@ fn weld_limits(rt: HostRuntime) {
         ([7, 1, 2, 50, 0], 5),
         ([7, 1, 2, 50, 1001], 5),
     ];
-    for (entry, field) in cases {
-        assert_eq!(rt; weld_fault(entry), field);
-    }
+    check_limits::<WeldEntry, _>(&rt, &cases);
 }
