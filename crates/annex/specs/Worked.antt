@@ -3,6 +3,7 @@ use Rattle.std.specs.Prelude.{◌≡◌, ℕ, Bool, true, false}
 use Rattle.stock.specs.declared.bolts.BoltClass.TheVariants.{C88}
 use Rattle.stock.specs.declared.bolts.BoltSize.TheVariants.{M20}
 use Rattle.stock.specs.declared.steel.Grade.TheVariants.{S275}
+use Rattle.parts.specs.declared.marks.ComponentMarks.{ComponentMarks}
 use Rattle.parts.specs.declared.plates.Plate.{Plate}
 use Rattle.parts.specs.declared.welds.Weld.{Weld}
 use Rattle.bolting.specs.declared.bolt_groups.BoltLayout.{BoltLayout}
@@ -22,12 +23,16 @@ plate n = record { mark = n; thickness = 10; grade = S275 }
 abbrev pub plate_pair : Plates
 plate_pair = record { plate_a = plate 1; plate_b = plate 2 }
 
+-- the mark of a component that joins them
+abbrev marked : ℕ → ComponentMarks
+marked n = record { mark = n; plate_a = 1; plate_b = 2 }
+
 -- bolts M20 of class 8.8: rows, columns, e1, p1, e2, p2
 abbrev layout_of : ℕ → ℕ → ℕ → ℕ → ℕ → ℕ → BoltLayout
 layout_of n m a1 b1 a2 b2 = record { size = M20; class = C88; rows = n; columns = m; e1 = a1; p1 = b1; e2 = a2; p2 = b2 }
 
 abbrev bolted : BoltLayout → Component
-bolted l = Bolted (record { mark = 7; plate_a = 1; plate_b = 2; layout = l }) plate_pair
+bolted l = Bolted (record { marks = marked 7; layout = l }) plate_pair
 
 -- four of them, by their end and edge distances
 abbrev joint : ℕ → ℕ → Component
@@ -45,7 +50,7 @@ single_bolt = bolted (layout_of 1 1 40 0 40 0)
 
 -- throats of 5.0 mm, 200 mm long
 abbrev pub throats_k : Weld
-throats_k = record { mark = 8; plate_a = 1; plate_b = 2; throat = 50; length = 200 }
+throats_k = record { marks = marked 8; throat = 50; length = 200 }
 
 abbrev pub weld_k : Component
 weld_k = Welded throats_k plate_pair

@@ -2,15 +2,15 @@
 use Rattle.std.specs.Prelude.{ℕ, List, ℤ, Ok, Result}
 use Rattle.stock.specs.Tables.{size_numbered, class_numbered}
 use Rattle.parts.specs.declared.limits.OutOfLimits.{OutOfLimits}
-use Rattle.parts.specs.Limits.{within, mark_in, other_mark, pitch_in, at_field, and_then}
-use Rattle.parts.specs.Entries.{nth}
+use Rattle.parts.specs.Limits.{within, pitch_in, at_field, and_then}
+use Rattle.parts.specs.Entries.{nth, marks_checked}
 use Rattle.bolting.specs.declared.bolt_groups.BoltGroup.{BoltGroup}
 use Rattle.bolting.specs.declared.bolt_groups.BoltLayout.{BoltLayout}
 use Rattle.bolting.specs.declared.bolt_groups.BoltGroupEntry.{BoltGroupEntry}
 
 -- the number that it bears
 abbrev pub group_mark : BoltGroup → ℕ
-group_mark g = g.mark
+group_mark g = g.marks.mark
 
 abbrev pub layout_checked : BoltGroupEntry → Result BoltLayout OutOfLimits
 layout_checked x =
@@ -26,11 +26,9 @@ layout_checked x =
 
 abbrev pub group_checked : BoltGroupEntry → Result BoltGroup OutOfLimits
 group_checked x =
-    at_field 1 (mark_in x.mark) (λ m.
-    at_field 2 (mark_in x.plate_a) (λ pa.
-    at_field 3 (other_mark pa x.plate_b) (λ pb.
+    and_then (marks_checked x.mark x.plate_a x.plate_b) (λ ms.
     and_then (layout_checked x) (λ l.
-    Ok (record { mark = m; plate_a = pa; plate_b = pb; layout = l })))))
+    Ok (record { marks = ms; layout = l })))
 
 -- an entry by the numbers of its fields, in their order
 abbrev pub group_fields : List ℤ → BoltGroupEntry

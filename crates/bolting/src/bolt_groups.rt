@@ -3,7 +3,8 @@ ghost use Rattle.bolting.specs.Groups.{group_mark, group_fields, group_checked, 
 ghost use Rattle.bolting.specs.Layouts.{bolt_count, other_direction, plate_width, spacing_in, single};
 
 use parts::entries::Entry;
-use parts::limits::{OutOfLimits, limited, mark, pitch, second_plate};
+use parts::limits::{OutOfLimits, limited, pitch};
+use parts::marks::ComponentMarks;
 use register::Numbered;
 use stock::bolts::{BoltClass, BoltSize};
 
@@ -92,12 +93,10 @@ impl BoltLayout {
     }
 }
 
-// Bolts that join two plates, named by their marks.
+// Bolts that join two plates.
 #[derive(Clone, Copy, Debug, PartialEq, Eq)]
 pub struct BoltGroup {
-    pub mark: u16,
-    pub plate_a: u16,
-    pub plate_b: u16,
+    pub marks: ComponentMarks,
     pub layout: BoltLayout,
 }
 
@@ -105,7 +104,7 @@ impl Numbered for BoltGroup {
     ghost numbered = { group_mark };
 
     fn number(&self) -> u16 {
-        self.mark
+        self.marks.mark
     }
 }
 
@@ -165,16 +164,9 @@ impl Entry for BoltGroupEntry {
     ghost checked = { group_checked };
 
     fn checked(&self) -> Result<BoltGroup, OutOfLimits> {
-        let mark_in = mark(self.mark).ok_or(OutOfLimits { field: 1 })?;
-        let plate_a = mark(self.plate_a).ok_or(OutOfLimits { field: 2 })?;
-        let plate_b = second_plate(self.plate_b, plate_a).ok_or(OutOfLimits { field: 3 })?;
+        let marks = ComponentMarks::new(self.mark, self.plate_a, self.plate_b)?;
         let layout = self.checked_layout()?;
-        Ok(BoltGroup {
-            mark: mark_in,
-            plate_a,
-            plate_b,
-            layout,
-        })
+        Ok(BoltGroup { marks, layout })
     }
 }
 

@@ -1,6 +1,7 @@
 -- The record that an entry makes, or its first field outside the limits.
 use Rattle.std.specs.Prelude.{ℕ, cond, List, ℤ, pos, negsuc, Some, None, Ok, Option, Result, ◌==◌, slice_index_or}
 use Rattle.parts.specs.declared.limits.OutOfLimits.{OutOfLimits}
+use Rattle.parts.specs.declared.marks.ComponentMarks.{ComponentMarks}
 use Rattle.parts.specs.declared.plates.Plate.{Plate}
 use Rattle.parts.specs.declared.welds.Weld.{Weld}
 use Rattle.parts.specs.declared.annexes.Factors.{Factors}
@@ -31,14 +32,20 @@ plate_checked x =
     at_field 3 (grade_numbered x.grade) (λ g.
     Ok (record { mark = m; thickness = t; grade = g }))))
 
+-- the marks of a component and of its plates, which are the first fields of its entry
+abbrev pub marks_checked : ℤ → ℤ → ℤ → Result ComponentMarks OutOfLimits
+marks_checked own a b =
+    at_field 1 (mark_in own) (λ m.
+    at_field 2 (mark_in a) (λ pa.
+    at_field 3 (other_mark pa b) (λ pb.
+    Ok (record { mark = m; plate_a = pa; plate_b = pb }))))
+
 abbrev pub weld_checked : WeldEntry → Result Weld OutOfLimits
 weld_checked x =
-    at_field 1 (mark_in x.mark) (λ m.
-    at_field 2 (mark_in x.plate_a) (λ pa.
-    at_field 3 (other_mark pa x.plate_b) (λ pb.
+    and_then (marks_checked x.mark x.plate_a x.plate_b) (λ ms.
     at_field 4 (within 1 400 x.throat) (λ a.
     at_field 5 (within 1 1000 x.length) (λ l.
-    Ok (record { mark = m; plate_a = pa; plate_b = pb; throat = a; length = l }))))))
+    Ok (record { marks = ms; throat = a; length = l }))))
 
 -- An entry by the numbers of its fields, in their order.
 

@@ -8,7 +8,7 @@ abbrev pub plate_mark : Plate → ℕ
 plate_mark p = p.mark
 
 abbrev pub weld_mark : Weld → ℕ
-weld_mark w = w.mark
+weld_mark w = w.marks.mark
 
 abbrev pub load_number : Load → ℕ
 load_number l = l.number

@@ -6,5 +6,6 @@ pub mod annexes;
 pub mod entries;
 pub mod limits;
 pub mod loads;
+pub mod marks;
 pub mod plates;
 pub mod welds;

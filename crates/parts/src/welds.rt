@@ -3,16 +3,15 @@ ghost use Rattle.parts.specs.Entries.{weld_fields, weld_checked};
 ghost use Rattle.parts.specs.Numbers.{weld_mark};
 
 use crate::entries::Entry;
-use crate::limits::{OutOfLimits, limited, mark, second_plate};
+use crate::limits::{OutOfLimits, limited};
+use crate::marks::ComponentMarks;
 use register::Numbered;
 
 // A pair of fillet welds that joins two plates; the throat in tenths of a mm, the effective length
 // in mm.
 #[derive(Clone, Copy, Debug, PartialEq, Eq)]
 pub struct Weld {
-    pub mark: u16,
-    pub plate_a: u16,
-    pub plate_b: u16,
+    pub marks: ComponentMarks,
     pub throat: u16,
     pub length: u16,
 }
@@ -21,7 +20,7 @@ impl Numbered for Weld {
     ghost numbered = { weld_mark };
 
     fn number(&self) -> u16 {
-        self.mark
+        self.marks.mark
     }
 }
 
@@ -57,15 +56,11 @@ impl Entry for WeldEntry {
     ghost checked = { weld_checked };
 
     fn checked(&self) -> Result<Weld, OutOfLimits> {
-        let mark_in = mark(self.mark).ok_or(OutOfLimits { field: 1 })?;
-        let plate_a = mark(self.plate_a).ok_or(OutOfLimits { field: 2 })?;
-        let plate_b = second_plate(self.plate_b, plate_a).ok_or(OutOfLimits { field: 3 })?;
+        let marks = ComponentMarks::new(self.mark, self.plate_a, self.plate_b)?;
         let throat = limited(self.throat, 1, 400).ok_or(OutOfLimits { field: 4 })?;
         let length = limited(self.length, 1, 1000).ok_or(OutOfLimits { field: 5 })?;
         Ok(Weld {
-            mark: mark_in,
-            plate_a,
-            plate_b,
+            marks,
             throat,
             length,
         })
