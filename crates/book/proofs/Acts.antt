@@ -121,8 +121,8 @@ module _ (t : Tables) where
 
   module _ (g : BoltGroup) where
     group_facts : is_ok (group_gates t g) ≡ true →
-        (mark_used t g.mark ≡ false) × (is_some (plate_named t g.plate_a) ≡ true) × (is_some (plate_named t g.plate_b) ≡ true) × (has_room t.bolt_groups ≡ true)
-    group_facts = component_passed (mark_used t g.mark) (is_some (plate_named t g.plate_a)) (is_some (plate_named t g.plate_b)) (has_room t.bolt_groups)
+        (mark_used t g.marks.mark ≡ false) × (is_some (plate_named t g.marks.plate_a) ≡ true) × (is_some (plate_named t g.marks.plate_b) ≡ true) × (has_room t.bolt_groups ≡ true)
+    group_facts = component_passed (mark_used t g.marks.mark) (is_some (plate_named t g.marks.plate_a)) (is_some (plate_named t g.marks.plate_b)) (has_room t.bolt_groups)
 
     group_taken : GroupTaken g (group_gates t g) t (group_stored t g)
     group_taken =
@@ -132,12 +132,12 @@ module _ (t : Tables) where
 
     groups_full : FullWhenTaken t.bolt_groups (group_gates t g)
     groups_full e =
-        ltb-false _ _ (component_full (mark_used t g.mark) (is_some (plate_named t g.plate_a)) (is_some (plate_named t g.plate_b)) (has_room t.bolt_groups) e)
+        ltb-false _ _ (component_full (mark_used t g.marks.mark) (is_some (plate_named t g.marks.plate_a)) (is_some (plate_named t g.marks.plate_b)) (has_room t.bolt_groups) e)
 
   module _ (w : Weld) where
     weld_facts : is_ok (weld_gates t w) ≡ true →
-        (mark_used t w.mark ≡ false) × (is_some (plate_named t w.plate_a) ≡ true) × (is_some (plate_named t w.plate_b) ≡ true) × (has_room t.welds ≡ true)
-    weld_facts = component_passed (mark_used t w.mark) (is_some (plate_named t w.plate_a)) (is_some (plate_named t w.plate_b)) (has_room t.welds)
+        (mark_used t w.marks.mark ≡ false) × (is_some (plate_named t w.marks.plate_a) ≡ true) × (is_some (plate_named t w.marks.plate_b) ≡ true) × (has_room t.welds ≡ true)
+    weld_facts = component_passed (mark_used t w.marks.mark) (is_some (plate_named t w.marks.plate_a)) (is_some (plate_named t w.marks.plate_b)) (has_room t.welds)
 
     weld_taken : WeldTaken w (weld_gates t w) t (weld_stored t w)
     weld_taken =
@@ -147,7 +147,7 @@ module _ (t : Tables) where
 
     welds_full : FullWhenTaken t.welds (weld_gates t w)
     welds_full e =
-        ltb-false _ _ (component_full (mark_used t w.mark) (is_some (plate_named t w.plate_a)) (is_some (plate_named t w.plate_b)) (has_room t.welds) e)
+        ltb-false _ _ (component_full (mark_used t w.marks.mark) (is_some (plate_named t w.marks.plate_a)) (is_some (plate_named t w.marks.plate_b)) (has_room t.welds) e)
 
 module _ (t : Tables) where
   abbrev ps : List Plate
@@ -161,8 +161,8 @@ module _ (t : Tables) where
 
   pub in_place : orderly t ≡ true → PlatesInPlace t
   in_place order = (
-    (λ n g e. plates_of_record _ _ ps group_mark n gs g (groups_known ps gs ws order) e),
-    (λ n w e. plates_of_record _ _ ps weld_mark n ws w (welds_known ps gs ws order) e),
+    (λ n g e. plates_of_record (λ g. g.marks) ps group_mark n gs g (groups_known ps gs ws order) e),
+    (λ n w e. plates_of_record (λ w. w.marks) ps weld_mark n ws w (welds_known ps gs ws order) e),
     one_component ps gs ws order,
   )
 

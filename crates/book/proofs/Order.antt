@@ -7,6 +7,7 @@ use Rattle.register.proofs.Search.{not_both, none_from_test}
 use Rattle.register.proofs.Changes.{record_without, unrepeated_added, unrepeated_without}
 use Rattle.parts.specs.Numbers.{plate_mark, weld_mark}
 use Rattle.bolting.specs.Groups.{group_mark}
+use Rattle.parts.specs.declared.marks.ComponentMarks.{ComponentMarks}
 use Rattle.parts.specs.declared.plates.Plate.{Plate}
 use Rattle.bolting.specs.declared.bolt_groups.BoltGroup.{BoltGroup}
 use Rattle.parts.specs.declared.welds.Weld.{Weld}
@@ -99,34 +100,34 @@ known_more p ps (n ∷ ns) h =
     let both = and_parts _ _ h in
     and_from _ _ (known_append plate_mark n ps (p ∷ []) ∙ or_left _ _ both.0) (known_more p ps ns both.1)
 
-module _ {X : Type 0} (a b : X → ℕ) (ps : List Plate) where
-  first_known : (x : X) (xs : List X) → all_known ps (both_plates a b (x ∷ xs)) ≡ true →
-      (is_some (record_of plate_mark (a x) ps) ≡ true) × (is_some (record_of plate_mark (b x) ps) ≡ true) × (all_known ps (both_plates a b xs) ≡ true)
+module _ {X : Type 0} (marks : X → ComponentMarks) (ps : List Plate) where
+  first_known : (x : X) (xs : List X) → all_known ps (both_plates marks (x ∷ xs)) ≡ true →
+      (is_some (record_of plate_mark (marks x).plate_a ps) ≡ true) × (is_some (record_of plate_mark (marks x).plate_b ps) ≡ true) × (all_known ps (both_plates marks xs) ≡ true)
   first_known x xs h =
-      let p = and_parts (is_some (record_of plate_mark (a x) ps)) _ h in
-      let q = and_parts (is_some (record_of plate_mark (b x) ps)) _ p.1 in
+      let p = and_parts (is_some (record_of plate_mark (marks x).plate_a ps)) _ h in
+      let q = and_parts (is_some (record_of plate_mark (marks x).plate_b ps)) _ p.1 in
       (p.0, q.0, q.1)
 
-  plates_added : (x : X) (xs : List X) → is_some (record_of plate_mark (a x) ps) ≡ true → is_some (record_of plate_mark (b x) ps) ≡ true →
-      all_known ps (both_plates a b xs) ≡ true → all_known ps (both_plates a b (xs ++ (x ∷ []))) ≡ true
+  plates_added : (x : X) (xs : List X) → is_some (record_of plate_mark (marks x).plate_a ps) ≡ true → is_some (record_of plate_mark (marks x).plate_b ps) ≡ true →
+      all_known ps (both_plates marks xs) ≡ true → all_known ps (both_plates marks (xs ++ (x ∷ []))) ≡ true
   plates_added x [] ka kb h = rw (ka, kb)
   plates_added x (y ∷ xs) ka kb h = let p = first_known y xs h in rw (p.0, p.1, plates_added x xs ka kb p.2)
 
-  plates_without : (f : X → ℕ) (k : ℕ) (xs : List X) → all_known ps (both_plates a b xs) ≡ true → all_known ps (both_plates a b (without f k xs)) ≡ true
+  plates_without : (f : X → ℕ) (k : ℕ) (xs : List X) → all_known ps (both_plates marks xs) ≡ true → all_known ps (both_plates marks (without f k xs)) ≡ true
   plates_without f k [] h = refl
   plates_without f k (x ∷ xs) h =
       let p = first_known x xs h in
-      elim (eqb (f x) k) as (λ v. all_known ps (both_plates a b (cond v xs (x ∷ without f k xs))) ≡ true) [
+      elim (eqb (f x) k) as (λ v. all_known ps (both_plates marks (cond v xs (x ∷ without f k xs))) ≡ true) [
         | true ↦ p.2
         | false ↦ rw (p.0, p.1, plates_without f k xs p.2)
       ]
 
-  pub plates_of_record : (f : X → ℕ) (k : ℕ) (xs : List X) (x : X) → all_known ps (both_plates a b xs) ≡ true → record_of f k xs ≡ Some x →
-      (is_some (record_of plate_mark (a x) ps) ≡ true) × (is_some (record_of plate_mark (b x) ps) ≡ true)
+  pub plates_of_record : (f : X → ℕ) (k : ℕ) (xs : List X) (x : X) → all_known ps (both_plates marks xs) ≡ true → record_of f k xs ≡ Some x →
+      (is_some (record_of plate_mark (marks x).plate_a ps) ≡ true) × (is_some (record_of plate_mark (marks x).plate_b ps) ≡ true)
   plates_of_record f k [] x h = λ e. not_both refl e
   plates_of_record f k (y ∷ xs) x h =
       let p = first_known y xs h in
-      elim (eqb (f y) k) as (λ v. cond v (Some y) (record_of f k xs) ≡ Some x → (is_some (record_of plate_mark (a x) ps) ≡ true) × (is_some (record_of plate_mark (b x) ps) ≡ true)) [
+      elim (eqb (f y) k) as (λ v. cond v (Some y) (record_of f k xs) ≡ Some x → (is_some (record_of plate_mark (marks x).plate_a ps) ≡ true) × (is_some (record_of plate_mark (marks x).plate_b ps) ≡ true)) [
         | true ↦ λ e. let same : y ≡ x = cc in rw (← same) (p.0, p.1)
         | false ↦ λ e. plates_of_record f k xs x p.2 e
       ]
@@ -142,13 +143,13 @@ module _ (ps : List Plate) (gs : List BoltGroup) (ws : List Weld) (order : in_or
   pub marks_apart : unrepeated (λ n. n) (component_marks gs ws) ≡ true
   marks_apart = (and_parts _ _ first_two).1
 
-  known : (all_known ps (both_plates (λ g. g.plate_a) (λ g. g.plate_b) gs) && all_known ps (both_plates (λ w. w.plate_a) (λ w. w.plate_b) ws)) ≡ true
-  known = sym (known_both ps (both_plates (λ g. g.plate_a) (λ g. g.plate_b) gs) _) ∙ (and_parts _ _ order).1
+  known : (all_known ps (both_plates (λ g. g.marks) gs) && all_known ps (both_plates (λ w. w.marks) ws)) ≡ true
+  known = sym (known_both ps (both_plates (λ g. g.marks) gs) _) ∙ (and_parts _ _ order).1
 
-  pub groups_known : all_known ps (both_plates (λ g. g.plate_a) (λ g. g.plate_b) gs) ≡ true
+  pub groups_known : all_known ps (both_plates (λ g. g.marks) gs) ≡ true
   groups_known = (and_parts _ _ known).0
 
-  pub welds_known : all_known ps (both_plates (λ w. w.plate_a) (λ w. w.plate_b) ws) ≡ true
+  pub welds_known : all_known ps (both_plates (λ w. w.marks) ws) ≡ true
   welds_known = (and_parts _ _ known).1
 
 marks_known : (gs : List BoltGroup) (ws : List Weld) (k : ℕ) → is_some (record_of (λ n. n) k (component_marks gs ws)) ≡ (is_some (record_of group_mark k gs) || is_some (record_of weld_mark k ws))
@@ -165,9 +166,9 @@ marks_less_weld gs ws k is =
     ap (λ l. map group_mark gs ++ l) (map_without weld_mark k ws) ∙ sym (without_back (λ n. n) k (map group_mark gs) (map weld_mark ws) (known_map group_mark k gs ∙ is))
 
 order_from : (ps : List Plate) (gs : List BoltGroup) (ws : List Weld) → unrepeated plate_mark ps ≡ true → unrepeated (λ n. n) (component_marks gs ws) ≡ true →
-    all_known ps (both_plates (λ g. g.plate_a) (λ g. g.plate_b) gs) ≡ true → all_known ps (both_plates (λ w. w.plate_a) (λ w. w.plate_b) ws) ≡ true → in_order ps gs ws ≡ true
+    all_known ps (both_plates (λ g. g.marks) gs) ≡ true → all_known ps (both_plates (λ w. w.marks) ws) ≡ true → in_order ps gs ws ≡ true
 order_from ps gs ws apart marks g w =
-    and_from _ _ (and_from _ _ apart marks) (known_both ps (both_plates (λ g. g.plate_a) (λ g. g.plate_b) gs) _ ∙ and_from _ _ g w)
+    and_from _ _ (and_from _ _ apart marks) (known_both ps (both_plates (λ g. g.marks) gs) _ ∙ and_from _ _ g w)
 
 module _ (ps : List Plate) (gs : List BoltGroup) (ws : List Weld) (order : in_order ps gs ws ≡ true) where
   pub order_plate : (p : Plate) → is_some (record_of plate_mark p.mark ps) ≡ false → in_order (ps ++ (p ∷ [])) gs ws ≡ true
@@ -178,34 +179,34 @@ module _ (ps : List Plate) (gs : List BoltGroup) (ws : List Weld) (order : in_or
       (known_more p ps _ (groups_known ps gs ws order))
       (known_more p ps _ (welds_known ps gs ws order))
 
-  pub order_group : (g : BoltGroup) → (is_some (record_of group_mark g.mark gs) || is_some (record_of weld_mark g.mark ws)) ≡ false →
-      is_some (record_of plate_mark g.plate_a ps) ≡ true → is_some (record_of plate_mark g.plate_b ps) ≡ true → in_order ps (gs ++ (g ∷ [])) ws ≡ true
+  pub order_group : (g : BoltGroup) → (is_some (record_of group_mark g.marks.mark gs) || is_some (record_of weld_mark g.marks.mark ws)) ≡ false →
+      is_some (record_of plate_mark g.marks.plate_a ps) ≡ true → is_some (record_of plate_mark g.marks.plate_b ps) ≡ true → in_order ps (gs ++ (g ∷ [])) ws ≡ true
   order_group g free ka kb =
-      let same : component_marks (gs ++ (g ∷ [])) ws ≡ map group_mark gs ++ (g.mark ∷ map weld_mark ws) =
-      ap (λ l. l ++ map weld_mark ws) (map-append group_mark gs (g ∷ [])) ∙ append_assoc (map group_mark gs) (g.mark ∷ []) (map weld_mark ws) in
+      let same : component_marks (gs ++ (g ∷ [])) ws ≡ map group_mark gs ++ (g.marks.mark ∷ map weld_mark ws) =
+      ap (λ l. l ++ map weld_mark ws) (map-append group_mark gs (g ∷ [])) ∙ append_assoc (map group_mark gs) (g.marks.mark ∷ []) (map weld_mark ws) in
       order_from ps (gs ++ (g ∷ [])) ws
       (plates_apart ps gs ws order)
-      (ap (unrepeated (λ n. n)) same ∙ unrepeated_between (λ n. n) g.mark (map group_mark gs) (map weld_mark ws) (marks_apart ps gs ws order) (marks_known gs ws g.mark ∙ free))
-      (plates_added _ _ ps g gs ka kb (groups_known ps gs ws order))
+      (ap (unrepeated (λ n. n)) same ∙ unrepeated_between (λ n. n) g.marks.mark (map group_mark gs) (map weld_mark ws) (marks_apart ps gs ws order) (marks_known gs ws g.marks.mark ∙ free))
+      (plates_added (λ g. g.marks) ps g gs ka kb (groups_known ps gs ws order))
       (welds_known ps gs ws order)
 
-  pub order_weld : (w : Weld) → (is_some (record_of group_mark w.mark gs) || is_some (record_of weld_mark w.mark ws)) ≡ false →
-      is_some (record_of plate_mark w.plate_a ps) ≡ true → is_some (record_of plate_mark w.plate_b ps) ≡ true → in_order ps gs (ws ++ (w ∷ [])) ≡ true
+  pub order_weld : (w : Weld) → (is_some (record_of group_mark w.marks.mark gs) || is_some (record_of weld_mark w.marks.mark ws)) ≡ false →
+      is_some (record_of plate_mark w.marks.plate_a ps) ≡ true → is_some (record_of plate_mark w.marks.plate_b ps) ≡ true → in_order ps gs (ws ++ (w ∷ [])) ≡ true
   order_weld w free ka kb =
-      let same : component_marks gs (ws ++ (w ∷ [])) ≡ component_marks gs ws ++ (w.mark ∷ []) =
-      ap (λ l. map group_mark gs ++ l) (map-append weld_mark ws (w ∷ [])) ∙ sym (append_assoc (map group_mark gs) (map weld_mark ws) (w.mark ∷ [])) in
+      let same : component_marks gs (ws ++ (w ∷ [])) ≡ component_marks gs ws ++ (w.marks.mark ∷ []) =
+      ap (λ l. map group_mark gs ++ l) (map-append weld_mark ws (w ∷ [])) ∙ sym (append_assoc (map group_mark gs) (map weld_mark ws) (w.marks.mark ∷ [])) in
       order_from ps gs (ws ++ (w ∷ []))
       (plates_apart ps gs ws order)
-      (ap (unrepeated (λ n. n)) same ∙ unrepeated_added (λ n. n) w.mark (component_marks gs ws) (marks_apart ps gs ws order) (none_from_test _ (marks_known gs ws w.mark ∙ free)))
+      (ap (unrepeated (λ n. n)) same ∙ unrepeated_added (λ n. n) w.marks.mark (component_marks gs ws) (marks_apart ps gs ws order) (none_from_test _ (marks_known gs ws w.marks.mark ∙ free)))
       (groups_known ps gs ws order)
-      (plates_added _ _ ps w ws ka kb (welds_known ps gs ws order))
+      (plates_added (λ w. w.marks) ps w ws ka kb (welds_known ps gs ws order))
 
   pub order_less_group : (k : ℕ) → is_some (record_of group_mark k gs) ≡ true → in_order ps (without group_mark k gs) ws ≡ true
   order_less_group k is =
       order_from ps (without group_mark k gs) ws
       (plates_apart ps gs ws order)
       (ap (unrepeated (λ n. n)) (marks_less_group gs ws k is) ∙ unrepeated_without (λ n. n) k (component_marks gs ws) (marks_apart ps gs ws order))
-      (plates_without _ _ ps group_mark k gs (groups_known ps gs ws order))
+      (plates_without (λ g. g.marks) ps group_mark k gs (groups_known ps gs ws order))
       (welds_known ps gs ws order)
 
   pub order_less_weld : (k : ℕ) → is_some (record_of group_mark k gs) ≡ false → in_order ps gs (without weld_mark k ws) ≡ true
@@ -214,7 +215,7 @@ module _ (ps : List Plate) (gs : List BoltGroup) (ws : List Weld) (order : in_or
       (plates_apart ps gs ws order)
       (ap (unrepeated (λ n. n)) (marks_less_weld gs ws k is) ∙ unrepeated_without (λ n. n) k (component_marks gs ws) (marks_apart ps gs ws order))
       (groups_known ps gs ws order)
-      (plates_without _ _ ps weld_mark k ws (welds_known ps gs ws order))
+      (plates_without (λ w. w.marks) ps weld_mark k ws (welds_known ps gs ws order))
 
   -- what follows for those who look up
   pub one_component : (k : ℕ) → is_some (record_of group_mark k gs) ≡ true → is_some (record_of weld_mark k ws) ≡ false

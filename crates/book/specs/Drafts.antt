@@ -2,6 +2,7 @@
 use Rattle.std.specs.Prelude.{ℕ, Bool, cond, not, ℤ, is_some, is_ok, Ok, Err, Result}
 use Rattle.register.specs.declared.Full.{Full as NoPlace}
 use Rattle.parts.specs.declared.limits.OutOfLimits.{OutOfLimits as LimitFault}
+use Rattle.parts.specs.declared.marks.ComponentMarks.{ComponentMarks}
 use Rattle.parts.specs.declared.plates.Plate.{Plate}
 use Rattle.bolting.specs.declared.bolt_groups.BoltGroup.{BoltGroup}
 use Rattle.parts.specs.declared.welds.Weld.{Weld}
@@ -32,11 +33,11 @@ full_or (Ok x) = Ok tt
 full_or (Err e) = Err (of_full e)
 
 -- the mark is free, and both plates are known
-abbrev pub component_gates : Tables → ℕ → ℕ → ℕ → Answer
-component_gates t m a b =
-    refuse_if (mark_used t m) InUse
-    (refuse_if (not (is_some (plate_named t a))) (Unknown 2)
-    (refuse_if (not (is_some (plate_named t b))) (Unknown 3)
+abbrev pub component_gates : Tables → ComponentMarks → Answer
+component_gates t c =
+    refuse_if (mark_used t c.mark) InUse
+    (refuse_if (not (is_some (plate_named t c.plate_a))) (Unknown 2)
+    (refuse_if (not (is_some (plate_named t c.plate_b))) (Unknown 3)
     (Ok tt)))
 
 -- the first refusal of the two
@@ -48,10 +49,10 @@ abbrev pub plate_gates : Tables → Plate → Answer
 plate_gates t p = refuse_if (is_some (plate_named t p.mark)) InUse (full_or (room_in t.plates))
 
 abbrev pub group_gates : Tables → BoltGroup → Answer
-group_gates t g = and_then (component_gates t g.mark g.plate_a g.plate_b) (full_or (room_in t.bolt_groups))
+group_gates t g = and_then (component_gates t g.marks) (full_or (room_in t.bolt_groups))
 
 abbrev pub weld_gates : Tables → Weld → Answer
-weld_gates t w = and_then (component_gates t w.mark w.plate_a w.plate_b) (full_or (room_in t.welds))
+weld_gates t w = and_then (component_gates t w.marks) (full_or (room_in t.welds))
 
 -- a record that no gate refuses is stored, last in its table; a refusal changes nothing
 abbrev pub plate_stored : Tables → Plate → Tables

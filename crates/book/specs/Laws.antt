@@ -4,6 +4,7 @@ use Rattle.std.specs.Prelude.{◌≡◌, ℕ, ◌≤◌, true, false, List, [], 
 use Rattle.parts.specs.Numbers.{plate_mark, weld_mark}
 use Rattle.bolting.specs.Groups.{group_mark, group_checked}
 use Rattle.parts.specs.Entries.{plate_checked, weld_checked}
+use Rattle.parts.specs.declared.marks.ComponentMarks.{ComponentMarks}
 use Rattle.parts.specs.declared.plates.Plate.{Plate}
 use Rattle.bolting.specs.declared.bolt_groups.BoltGroup.{BoltGroup}
 use Rattle.parts.specs.declared.welds.Weld.{Weld}
@@ -20,14 +21,14 @@ use Rattle.book.specs.Order.{orderly}
 use Rattle.book.specs.Drafts.{Answer, mark_checked, plate_answer, plate_entered, group_answer, group_entered, weld_answer, weld_entered, strike_answer, struck_out}
 
 -- both plates are in the book
-abbrev pub Joined : Tables → ℕ → ℕ → Type 0
-Joined t a b = (is_some (plate_named t a) ≡ true) × (is_some (plate_named t b) ≡ true)
+abbrev pub Joined : Tables → ComponentMarks → Type 0
+Joined t c = (is_some (plate_named t c.plate_a) ≡ true) × (is_some (plate_named t c.plate_b) ≡ true)
 
 -- the plates that a component names are in the book, and no mark names both a bolt group and a weld
 abbrev pub PlatesInPlace : Tables → Type 0
 PlatesInPlace t =
-    ((n : ℕ) (g : BoltGroup) → group_named t n ≡ Some g → Joined t g.plate_a g.plate_b)
-    × ((n : ℕ) (w : Weld) → weld_named t n ≡ Some w → Joined t w.plate_a w.plate_b)
+    ((n : ℕ) (g : BoltGroup) → group_named t n ≡ Some g → Joined t g.marks)
+    × ((n : ℕ) (w : Weld) → weld_named t n ≡ Some w → Joined t w.marks)
     × ((n : ℕ) → is_some (group_named t n) ≡ true → is_some (weld_named t n) ≡ false)
 
 module _ {R : Type 0} where

@@ -3,6 +3,7 @@ use Rattle.std.specs.Prelude.{ℕ, Bool, true, ◌&&◌, List, [], ◌∷◌, �
 use Rattle.register.specs.Held.{record_of, unrepeated}
 use Rattle.parts.specs.Numbers.{plate_mark, weld_mark}
 use Rattle.bolting.specs.Groups.{group_mark}
+use Rattle.parts.specs.declared.marks.ComponentMarks.{ComponentMarks}
 use Rattle.parts.specs.declared.plates.Plate.{Plate}
 use Rattle.bolting.specs.declared.bolt_groups.BoltGroup.{BoltGroup}
 use Rattle.parts.specs.declared.welds.Weld.{Weld}
@@ -15,13 +16,13 @@ component_marks gs ws = map group_mark gs ++ map weld_mark ws
 
 -- the two plates of each record
 module _ {X : Type 0} where
-  abbrev pub both_plates : (X → ℕ) → (X → ℕ) → List X → List ℕ
-  both_plates a b [] = []
-  both_plates a b (x ∷ xs) = a x ∷ b x ∷ both_plates a b xs
+  abbrev pub both_plates : (X → ComponentMarks) → List X → List ℕ
+  both_plates marks [] = []
+  both_plates marks (x ∷ xs) = (marks x).plate_a ∷ (marks x).plate_b ∷ both_plates marks xs
 
 -- the plates that the components name
 abbrev pub named_plates : List BoltGroup → List Weld → List ℕ
-named_plates gs ws = both_plates (λ g. g.plate_a) (λ g. g.plate_b) gs ++ both_plates (λ w. w.plate_a) (λ w. w.plate_b) ws
+named_plates gs ws = both_plates (λ g. g.marks) gs ++ both_plates (λ w. w.marks) ws
 
 -- each of the marks is that of a plate
 abbrev pub all_known : List Plate → List ℕ → Bool

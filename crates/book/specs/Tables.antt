@@ -6,6 +6,7 @@ use Rattle.bolting.specs.Groups.{group_mark}
 use Rattle.stock.specs.declared.bolts.BoltClass.TheVariants.{C46}
 use Rattle.stock.specs.declared.bolts.BoltSize.TheVariants.{M16}
 use Rattle.stock.specs.declared.steel.Grade.TheVariants.{S235}
+use Rattle.parts.specs.declared.marks.ComponentMarks.{ComponentMarks}
 use Rattle.parts.specs.declared.plates.Plate.{Plate}
 use Rattle.bolting.specs.declared.bolt_groups.BoltGroup.{BoltGroup}
 use Rattle.parts.specs.declared.welds.Weld.{Weld}
@@ -19,16 +20,17 @@ use Rattle.book.specs.Tabled.{empty_table, records_in}
 abbrev pub blank_plate : Plate
 blank_plate = record { mark = 0; thickness = 0; grade = S235 }
 
+abbrev pub blank_marks : ComponentMarks
+blank_marks = record { mark = 0; plate_a = 0; plate_b = 0 }
+
 abbrev pub blank_group : BoltGroup
 blank_group = record {
-  mark = 0;
-  plate_a = 0;
-  plate_b = 0;
+  marks = blank_marks;
   layout = record { size = M16; class = C46; rows = 0; columns = 0; e1 = 0; p1 = 0; e2 = 0; p2 = 0 };
 }
 
 abbrev pub blank_weld : Weld
-blank_weld = record { mark = 0; plate_a = 0; plate_b = 0; throat = 0; length = 0 }
+blank_weld = record { marks = blank_marks; throat = 0; length = 0 }
 
 abbrev pub blank_load : Load
 blank_load = record { number = 0; component = 0; force_1 = pos 0; force_2 = pos 0; force_3 = pos 0 }

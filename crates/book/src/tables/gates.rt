@@ -5,21 +5,22 @@ ghost use Rattle.book.specs.Drafts.{component_gates, plate_gates, plate_stored, 
 use crate::refusals::Refusal;
 use crate::tables::Tables;
 use bolting::bolt_groups::BoltGroup;
+use parts::marks::ComponentMarks;
 use parts::plates::Plate;
 use parts::welds::Weld;
 
 impl Tables {
     // May a component of that mark join those plates?
-    fn check_component(&self, mark: u16, plate_a: u16, plate_b: u16) -> Result<(), Refusal>
-        ensures { result ≡ component_gates self.now mark plate_a plate_b }
+    fn check_component(&self, marks: ComponentMarks) -> Result<(), Refusal>
+        ensures { result ≡ component_gates self.now marks }
     {
-        if self.bolt_groups.find(mark).is_some() || self.welds.find(mark).is_some() {
+        if self.bolt_groups.find(marks.mark).is_some() || self.welds.find(marks.mark).is_some() {
             return Err(Refusal::InUse);
         }
-        if self.plates.find(plate_a).is_none() {
+        if self.plates.find(marks.plate_a).is_none() {
             return Err(Refusal::Unknown(2));
         }
-        if self.plates.find(plate_b).is_none() {
+        if self.plates.find(marks.plate_b).is_none() {
             return Err(Refusal::Unknown(3));
         }
         Ok(())
@@ -40,7 +41,7 @@ impl Tables {
         ensures answer { result ≡ group_gates self.old group }
         ensures tables { self.new ≡ group_stored self.old group }
     {
-        self.check_component(group.mark, group.plate_a, group.plate_b)?;
+        self.check_component(group.marks)?;
         self.add_bolt_group(group)?;
         Ok(())
     }
@@ -49,7 +50,7 @@ impl Tables {
         ensures answer { result ≡ weld_gates self.old weld }
         ensures tables { self.new ≡ weld_stored self.old weld }
     {
-        self.check_component(weld.mark, weld.plate_a, weld.plate_b)?;
+        self.check_component(weld.marks)?;
         self.add_weld(weld)?;
         Ok(())
     }

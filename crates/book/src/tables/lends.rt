@@ -8,6 +8,7 @@ ghost use Rattle.book.specs.Tables.{empty_tables, with_plates, with_groups, with
 use crate::tables::{Places, Table, Tables};
 use bolting::bolt_groups::{BoltGroup, BoltLayout};
 use parts::loads::Load;
+use parts::marks::ComponentMarks;
 use parts::plates::Plate;
 use parts::welds::Weld;
 use register::{Full, Numbered, Register};
@@ -21,10 +22,14 @@ const BLANK_PLATE: Plate = Plate {
     grade: Grade::S235,
 };
 
-const BLANK_GROUP: BoltGroup = BoltGroup {
+const BLANK_MARKS: ComponentMarks = ComponentMarks {
     mark: 0,
     plate_a: 0,
     plate_b: 0,
+};
+
+const BLANK_GROUP: BoltGroup = BoltGroup {
+    marks: BLANK_MARKS,
     layout: BoltLayout {
         size: BoltSize::M16,
         class: BoltClass::C46,
@@ -38,9 +43,7 @@ const BLANK_GROUP: BoltGroup = BoltGroup {
 };
 
 const BLANK_WELD: Weld = Weld {
-    mark: 0,
-    plate_a: 0,
-    plate_b: 0,
+    marks: BLANK_MARKS,
     throat: 0,
     length: 0,
 };
