@@ -1,10 +1,10 @@
 // Bearing of the bolts on a plate.
 ghost use Rattle.std.specs.Prelude.{◌≡◌, ◌*◌, pos, ◌-ℤ◌, ◌*ℤ◌, int_le};
-ghost use Rattle.strength.specs.Bearing.{least_with_pitch, end_ratio, bearing_stress, full_edge_ratio, en_edge_ratio, edge_ratio, other_direction, bearing_weight, bearing_area, bearing_met};
+ghost use Rattle.strength.specs.Bearing.{least_with_pitch, end_ratio, bearing_stress, full_edge_ratio, en_edge_ratio, edge_ratio, bearing_weight, bearing_area, bearing_met};
 
 use crate::bolts::LoadedBolts;
-use crate::rules::Rules;
 use bolting::bolt_groups::{BoltLayout, Direction, Spacing};
+use parts::annexes::Rules;
 use parts::plates::Plate;
 use stock::makes::Make;
 
@@ -31,15 +31,6 @@ fn bearing_stress(spacing: Spacing, hole: u8, bolt_strength: u16, strength: u16)
     let plate = product_i64(u32::from(strength), end_ratio(spacing, hole));
     let bolt = 12 * u32::from(hole) * u32::from(bolt_strength);
     plate.min(i64::from(bolt))
-}
-
-fn other(direction: Direction) -> Direction
-    ensures { result ≡ other_direction direction }
-{
-    match direction {
-        Direction::Along => Direction::Across,
-        Direction::Across => Direction::Along,
-    }
 }
 
 // The greatest factor k1, 2.5, times 10·d0.
@@ -88,7 +79,7 @@ impl LoadedBolts<'_> {
             self.layout.class.ultimate_strength(),
             plate.grade.ultimate_strength(make),
         );
-        let edge = edge_ratio(make, self.layout.spacing(other(direction)), hole);
+        let edge = edge_ratio(make, self.layout.spacing(direction.other()), hole);
         let section = product_i64(bearing_area(self.layout, plate), edge);
         let resistance = product_i128(stress, section);
         let weight = u64::from(bearing_weight(factors.gamma_m2, hole));
@@ -97,7 +88,8 @@ impl LoadedBolts<'_> {
     }
 }
 
-// The products of signed numbers are wider than their factors, so that none can overflow.
+// Products that are wider than their factors, so that none can overflow. As a trait they would be no
+// plainer: an impl for each of the two widths, with the fact that it states here.
 fn product_i64(a: u32, b: i32) -> i64
     ensures { result ≡ pos a *ℤ b }
 {

@@ -4,9 +4,9 @@ ghost use Rattle.strength.specs.Bolts.{bolt_force, shear_met, tension_met, combi
 
 use crate::forces::Forces;
 use crate::roots::root_within;
-use crate::rules::Rules;
 use bolting::bolt_groups::BoltLayout;
 use components::Plates;
+use parts::annexes::Rules;
 
 // The bolts that join two plates, under forces.
 #[derive(Clone, Copy)]

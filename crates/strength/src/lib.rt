@@ -6,22 +6,21 @@ ghost use Rattle.strength.specs.Strength.{bolt_clause_numbered, weld_clause_numb
 
 use crate::bolts::LoadedBolts;
 use crate::forces::Forces;
-use crate::rules::Rules;
 use crate::welds::LoadedWelds;
 use bolting::bolt_groups::Direction;
 use components::{Component, Side, Sizes};
+use parts::annexes::Rules;
 use stock::makes::Make;
 
 mod bearing;
 mod bolts;
 mod forces;
 mod roots;
-pub mod rules;
 mod sections;
 mod welds;
 
 // What a strength clause judges of a bolt group.
-#[derive(Clone, Copy)]
+#[derive(Clone, Copy, Debug, PartialEq, Eq)]
 pub enum BoltClause {
     Shear,
     Tension,
@@ -34,6 +33,7 @@ pub enum BoltClause {
 }
 
 impl BoltClause {
+    // No TryFrom, since a number without a clause is no error: what the rules lack is met.
     fn numbered(number: u8) -> Option<BoltClause>
         ensures { result ≡ bolt_clause_numbered number }
     {
@@ -55,13 +55,14 @@ impl BoltClause {
 }
 
 // What a strength clause judges of a pair of welds.
-#[derive(Clone, Copy)]
+#[derive(Clone, Copy, Debug, PartialEq, Eq)]
 pub enum WeldClause {
     CombinedStress,
     NormalStress,
 }
 
 impl WeldClause {
+    // No TryFrom, since the clause is that of a make and a number.
     fn numbered(make: Make, number: u8) -> Option<WeldClause>
         ensures { result ≡ weld_clause_numbered make number }
     {
@@ -108,26 +109,31 @@ pub fn strength_met(rules: Rules, component: &Component, clause: u8, sizes: Size
     ensures { result ≡ strength_met rules component.now clause sizes }
 {
     match component {
-        Component::Bolted(group, plates) => BoltClause::numbered(clause).is_none_or(|clause| {
+        Component::Bolted(group, plates) => {
             let layout = &group.layout;
-            Forces::new(sizes).is_some_and(|forces| LoadedBolts {
-                rules,
-                layout,
-                plates,
-                forces,
-            }
-            .hold(clause))
-        }),
-        Component::Welded(weld, plates) => WeldClause::numbered(rules.make, clause).is_none_or(
-            |clause| {
-                Forces::new(sizes).is_some_and(|forces| LoadedWelds {
-                    rules,
-                    weld: *weld,
-                    plates,
-                    forces,
-                }
-                .hold(clause))
-            },
-        ),
+            BoltClause::numbered(clause).is_none_or(|clause| {
+                Forces::new(sizes)
+                    .map(|forces| LoadedBolts {
+                        rules,
+                        layout,
+                        plates,
+                        forces,
+                    })
+                    .is_some_and(|bolts| bolts.hold(clause))
+            })
+        }
+        Component::Welded(weld, plates) => {
+            let weld = *weld;
+            WeldClause::numbered(rules.make, clause).is_none_or(|clause| {
+                Forces::new(sizes)
+                    .map(|forces| LoadedWelds {
+                        rules,
+                        weld,
+                        plates,
+                        forces,
+                    })
+                    .is_some_and(|welds| welds.hold(clause))
+            })
+        }
     }
 }

@@ -3,8 +3,8 @@ ghost use Rattle.std.specs.Prelude.{◌≡◌};
 ghost use Rattle.strength.specs.Sections.{gross_met, holes_width, net_met};
 
 use crate::bolts::LoadedBolts;
-use crate::rules::Rules;
 use bolting::bolt_groups::BoltLayout;
+use parts::annexes::Rules;
 use parts::plates::Plate;
 
 // The width of the holes of a row, in mm.

@@ -4,8 +4,8 @@ ghost use Rattle.strength.specs.Welds.{weld_ultimate, weld_factor, combined_stre
 
 use crate::forces::Forces;
 use crate::roots::root_within;
-use crate::rules::Rules;
 use components::{Plates, Sizes};
+use parts::annexes::Rules;
 use parts::welds::Weld;
 
 // The welds that join two plates, under forces.
