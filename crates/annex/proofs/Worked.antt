@@ -14,6 +14,7 @@ use Rattle.strength.specs.declared.BoltClause.TheVariants.{Shear, Tension, Combi
 use Rattle.strength.specs.declared.WeldClause.{WeldClause as WeldStrength}
 use Rattle.strength.specs.declared.WeldClause.TheVariants.{CombinedStress, NormalStress}
 use Rattle.strength.specs.Strength.{bolt_clause_numbered as bolt_strength_numbered, weld_clause_numbered as weld_strength_numbered, bolts_hold, welds_hold}
+use Rattle.annex.specs.Makes.{ruled}
 use Rattle.annex.specs.Worked.{plate_pair, factors_en, layout_j, throats_k, force_1_alone, WorkedJoints}
 use Rattle.annex.specs.Forms.{any_met}
 
@@ -37,7 +38,7 @@ welds_laid_out SeA MinLength = refl
 welds_laid_out m MinSlenderness = refl
 welds_laid_out m MaxSlenderness = refl
 
-joint_holds : (clause : BoltStrength) → bolts_hold (record { make = En; factors = factors_en }) layout_j plate_pair (force_1_alone 3000) clause ≡ true
+joint_holds : (clause : BoltStrength) → bolts_hold (ruled En factors_en) layout_j plate_pair (force_1_alone 3000) clause ≡ true
 joint_holds Shear = refl
 joint_holds Tension = refl
 joint_holds Combined = refl
@@ -50,7 +51,7 @@ joint_holds (Gross B) = refl
 joint_holds (Net A) = refl
 joint_holds (Net B) = refl
 
-weld_holds : (clause : WeldStrength) → welds_hold (record { make = En; factors = factors_en }) throats_k plate_pair (record { s1 = 3000; s2 = 2000; s3 = 0 }) clause ≡ true
+weld_holds : (clause : WeldStrength) → welds_hold (ruled En factors_en) throats_k plate_pair (record { s1 = 3000; s2 = 2000; s3 = 0 }) clause ≡ true
 weld_holds CombinedStress = refl
 weld_holds NormalStress = refl
 

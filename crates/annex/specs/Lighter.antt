@@ -14,8 +14,7 @@ use Rattle.components.specs.declared.Component.TheVariants.{Bolted, Welded}
 use Rattle.components.specs.declared.Plates.{Plates}
 use Rattle.components.specs.declared.Sizes.{Sizes}
 use Rattle.components.specs.Parts.{plate_on, size_in}
-use Rattle.strength.specs.declared.rules.Factors.{Factors}
-use Rattle.strength.specs.declared.rules.Rules.{Rules}
+use Rattle.parts.specs.declared.annexes.Factors.{Factors}
 use Rattle.strength.specs.declared.BoltClause.{BoltClause}
 use Rattle.strength.specs.declared.BoltClause.TheVariants.{Shear, Tension, Combined, Bearing, Gross, Net}
 use Rattle.strength.specs.declared.WeldClause.{WeldClause}
@@ -26,11 +25,8 @@ use Rattle.strength.specs.Sections.{gross_met, net_met}
 use Rattle.strength.specs.Welds.{combined_stress_met, normal_stress_met, stress_square, weld_factor}
 use Rattle.strength.specs.Strength.{bolt_clause_numbered, weld_clause_numbered, in_range, bolts_hold, welds_hold, strength_met}
 use Rattle.annex.specs.Facts.{NoLarger}
-use Rattle.annex.specs.Makes.{NoSmaller}
+use Rattle.annex.specs.Makes.{ruled, NoSmaller}
 use Rattle.annex.specs.Forms.{within_lower, root_lower, signed_lower, both_lower, any_lower}
-
-abbrev ruled : Make → Factors → Rules
-ruled m f = record { make = m; factors = f }
 
 -- f and s are no larger than g and t
 module _ (m : Make) (f g : Factors) (less : NoSmaller g f) (s t : Sizes) (no : NoLarger s t) where

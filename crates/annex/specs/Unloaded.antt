@@ -15,19 +15,19 @@ use Rattle.bolting.specs.declared.bolt_groups.BoltLayout.{BoltLayout}
 use Rattle.bolting.specs.declared.bolt_groups.Direction.{Direction}
 use Rattle.bolting.specs.declared.bolt_groups.Direction.TheVariants.{Along, Across}
 use Rattle.bolting.specs.declared.bolt_groups.Spacing.{Spacing}
-use Rattle.bolting.specs.Layouts.{plate_width, spacing_in, single}
+use Rattle.bolting.specs.Layouts.{other_direction, plate_width, spacing_in, single}
 use Rattle.components.specs.declared.Component.TheVariants.{Bolted, Welded}
 use Rattle.components.specs.declared.Plates.{Plates}
 use Rattle.components.specs.Parts.{plate_on, size_in, thinner}
 use Rattle.layout.specs.declared.BoltClause.TheVariants.{MinEnd, MinPitch}
-use Rattle.strength.specs.declared.rules.Rules.{Rules}
+use Rattle.parts.specs.declared.annexes.Rules.{Rules}
 use Rattle.strength.specs.declared.BoltClause.{BoltClause}
 use Rattle.strength.specs.declared.BoltClause.TheVariants.{Shear, Tension, Combined, Bearing, Gross, Net}
 use Rattle.strength.specs.declared.WeldClause.{WeldClause}
 use Rattle.strength.specs.declared.WeldClause.TheVariants.{CombinedStress, NormalStress}
 use Rattle.layout.specs.Layout.{min_end, min_pitch, bolts_laid_out}
 use Rattle.strength.specs.Bolts.{root_within, shear_limit, tension_share}
-use Rattle.strength.specs.Bearing.{least_with_pitch, end_ratio, bearing_stress, edge_ratio, other_direction, bearing_weight, bearing_met}
+use Rattle.strength.specs.Bearing.{least_with_pitch, end_ratio, bearing_stress, edge_ratio, bearing_weight, bearing_met}
 use Rattle.strength.specs.Sections.{holes_width}
 use Rattle.strength.specs.Strength.{bolt_clause_numbered, weld_clause_numbered, bolts_hold, welds_hold}
 use Rattle.annex.specs.Facts.{LaidOut, no_force, UnloadedMet}
