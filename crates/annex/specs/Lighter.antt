@@ -8,7 +8,6 @@ use Rattle.parts.specs.declared.plates.Plate.{Plate}
 use Rattle.parts.specs.declared.welds.Weld.{Weld}
 use Rattle.bolting.specs.declared.bolt_groups.BoltLayout.{BoltLayout}
 use Rattle.bolting.specs.declared.bolt_groups.Direction.{Direction}
-use Rattle.bolting.specs.declared.bolt_groups.Direction.TheVariants.{Along, Across}
 use Rattle.components.specs.declared.Component.{Component}
 use Rattle.components.specs.declared.Component.TheVariants.{Bolted, Welded}
 use Rattle.components.specs.declared.Plates.{Plates}
@@ -61,8 +60,7 @@ module _ (m : Make) (f g : Factors) (less : NoSmaller g f) (s t : Sizes) (no : N
       (root_lower _ _ _ _ _ _ (weighted 630) shear_square_lower (omega arith))
 
   size_lower : (d : Direction) → size_in d s ≤ size_in d t
-  size_lower Along = no.0
-  size_lower Across = no.1
+  size_lower d = grind arith
 
   bearing_lower : (l : BoltLayout) (p : Plate) (d : Direction) → bearing_met (ruled m g) l p d t ≡ true → bearing_met (ruled m f) l p d s ≡ true
   bearing_lower l p d = signed_lower _ _ _ (mul-le _ _ _ _ (mul-le _ _ _ _ (weighted 120) (omega arith)) (size_lower d))

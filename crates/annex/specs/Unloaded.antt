@@ -1,6 +1,6 @@
 -- A component that meets every layout clause meets every strength clause without force: no right side is negative.
-use Rattle.std.specs.Prelude.{◌≡◌, ℕ, zero, suc, ◌+◌, ◌-◌, ◌*◌, ◌≤◌, min, true, false, ℤ, pos, negsuc, ◌-ℤ◌, ◌*ℤ◌, int_le, int_lt, nat_le, refl}
-use Rattle.std.proofs.Common.{ap, ⊎_elim, mul-zero, zero-mul, suc-mul, one-mul, arith, lit≤}
+use Rattle.std.specs.Prelude.{◌≡◌, ℕ, zero, suc, ◌+◌, ◌-◌, ◌*◌, ◌≤◌, min, true, false, ℤ, pos, negsuc, ◌-ℤ◌, ◌*ℤ◌, int_le, int_lt, nat_le}
+use Rattle.std.proofs.Common.{⊎_elim, mul-zero, zero-mul, suc-mul, one-mul, arith, lit≤}
 use Rattle.std.specs.Int.{int_min}
 use Rattle.std.proofs.lemmas.Nat.{mul-le}
 use Rattle.std.proofs.lemmas.Int.{ints}
@@ -26,8 +26,8 @@ use Rattle.strength.specs.declared.BoltClause.TheVariants.{Shear, Tension, Combi
 use Rattle.strength.specs.declared.WeldClause.{WeldClause}
 use Rattle.strength.specs.declared.WeldClause.TheVariants.{CombinedStress, NormalStress}
 use Rattle.layout.specs.Layout.{min_end, min_pitch, bolts_laid_out}
-use Rattle.strength.specs.Bolts.{root_within, shear_limit, tension_share}
-use Rattle.strength.specs.Bearing.{least_with_pitch, end_ratio, bearing_stress, edge_ratio, bearing_weight, bearing_met}
+use Rattle.strength.specs.Bolts.{shear_limit, tension_share}
+use Rattle.strength.specs.Bearing.{least_with_pitch, end_ratio, bearing_stress, edge_ratio, bearing_met}
 use Rattle.strength.specs.Sections.{holes_width}
 use Rattle.strength.specs.Strength.{bolt_clause_numbered, weld_clause_numbered, bolts_hold, welds_hold}
 use Rattle.annex.specs.Facts.{LaidOut, no_force, UnloadedMet}
@@ -64,14 +64,10 @@ abbrev Spread : Spacing → ℕ → Type 0
 Spread s d0 = (12 * d0 ≤ 10 * s.end) × (single s ≡ false → 22 * d0 ≤ 10 * s.pitch)
 
 min_end_least : (m : Make) (d : Direction) → 12 ≤ min_end m d
-min_end_least m Along = lit≤ tt
-min_end_least En Across = lit≤ tt
-min_end_least SeA Across = lit≤ tt
+min_end_least m d = grind arith
 
 min_pitch_least : (m : Make) (d : Direction) → 22 ≤ min_pitch m d
-min_pitch_least m Along = lit≤ tt
-min_pitch_least En Across = lit≤ tt
-min_pitch_least SeA Across = lit≤ tt
+min_pitch_least m d = grind arith
 
 spread : (m : Make) (l : BoltLayout) (t : ℕ) (d : Direction) → bolts_laid_out m l t (MinEnd d) ≡ true → bolts_laid_out m l t (MinPitch d) ≡ true → Spread (spacing_in d l) (hole_diameter l.size)
 spread m l t d e p = (
@@ -107,15 +103,12 @@ holes_fit (suc (suc n)) d0 e p h k =
     rw rest (omega (arith, suc-mul (suc n) d0, mul-le (suc n) d0 (suc n) p (omega arith) (omega arith)))
 
 module _ (r : Rules) (l : BoltLayout) (p : Plates) (laid : (d : Direction) → Spread (spacing_in d l) (hole_diameter l.size)) where
-  no_size : (d : Direction) → size_in d no_force ≡ 0
-  no_size Along = refl
-  no_size Across = refl
+  no_force_weighs : (w : ℕ) (d : Direction) → w * size_in d no_force ≤ 0
+  no_force_weighs w d = grind (arith, mul-zero)
 
   bearing_unloaded : (q : Plate) (d : Direction) → bearing_met r l q d no_force ≡ true
   bearing_unloaded q d =
-      let none : bearing_weight r.factors.gamma_m2 (hole_diameter l.size) * size_in d no_force ≤ 0 =
-      omega (arith, ap (λ n. bearing_weight r.factors.gamma_m2 (hole_diameter l.size) * n) (no_size d), mul-zero (bearing_weight r.factors.gamma_m2 (hole_diameter l.size))) in
-      signed_lower _ 0 _ none
+      signed_lower _ 0 _ (no_force_weighs _ d)
       (above_product _ _ (stress_above (spacing_in d l) (hole_diameter l.size) _ _ (laid d))
       (above_product _ _ (above_number _) (edge_above r.make (spacing_in (other_direction d) l) (hole_diameter l.size) (laid (other_direction d))))).sign
 
@@ -123,8 +116,7 @@ module _ (r : Rules) (l : BoltLayout) (p : Plates) (laid : (d : Direction) → S
   bolts_unloaded Shear = zero_within _ _
   bolts_unloaded Tension = zero_within _ _
   bolts_unloaded Combined =
-      and_from (nat_le (tension_share r l no_force) (shear_limit r l)) (root_within (630 * r.factors.gamma_m2) 0 (shear_limit r l - tension_share r l no_force))
-      (zero_within _ _) (zero_within _ _)
+      and_from (nat_le (tension_share r l no_force) (shear_limit r l)) _ (zero_within _ _) (zero_within (630 * r.factors.gamma_m2 * (630 * r.factors.gamma_m2)) _)
   bolts_unloaded (Bearing d side) = bearing_unloaded (plate_on side p) d
   bolts_unloaded (Gross side) = zero_within _ _
   bolts_unloaded (Net side) =

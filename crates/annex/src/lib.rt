@@ -21,7 +21,7 @@ pub trait Annex {
     // the yes or no to every question
     ghost meaning: { Self → Meaning };
 
-    // Clauses go by number, since an annex answers for every number and reports print it.
+    // Clauses go by numbers and no enum, since an annex answers for every number, and reports print it.
     fn layout_met(&self, component: &Component, clause: u8) -> bool
         ensures { result ≡ (meaning self.now).layout component.now clause };
 
@@ -52,6 +52,7 @@ impl Annex for Rules {
 }
 
 // The annex that an entry chooses, or its first field outside the limits.
+#[tactic(auto, using(crate::specs::FactsLemmas::stricter, crate::proofs::Worked::worked_joints))]
 pub fn of_entry(entry: AnnexEntry) -> Result<Rules, OutOfLimits>
     ensures made { result ≡ annex_checked entry }
     ensures worked { WorkedJoints }
