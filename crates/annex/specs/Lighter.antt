@@ -3,6 +3,7 @@
 use Rattle.std.specs.Prelude.{◌≡◌, ℕ, ◌+◌, ◌*◌, ◌≤◌, true}
 use Rattle.std.proofs.Common.{arith}
 use Rattle.std.proofs.lemmas.Nat.{mul-le}
+use Rattle.std.proofs.lemmas.Bool.Decides.{nat_tests}
 use Rattle.stock.specs.declared.makes.Make.{Make}
 use Rattle.parts.specs.declared.plates.Plate.{Plate}
 use Rattle.parts.specs.declared.welds.Weld.{Weld}
@@ -80,10 +81,7 @@ module _ (m : Make) (f g : Factors) (less : NoSmaller g f) (s t : Sizes) (no : N
       within_lower _ _ _ _ (mul-le _ _ _ _ (mul-le _ _ _ _ (weighted 50) (weighted 50)) (mul-le _ _ _ _ sum sum)) (omega arith)
 
   range_lower : in_range t ≡ true → in_range s ≡ true
-  range_lower =
-      both_lower _ _ _ _
-      (both_lower _ _ _ _ (within_lower _ _ _ _ no.0 (omega arith)) (within_lower _ _ _ _ no.1 (omega arith)))
-      (within_lower _ _ _ _ no.2 (omega arith))
+  range_lower e = grind (arith, nat_tests)
 
   bolts_lower : (l : BoltLayout) (p : Plates) (clause : BoltClause) → bolts_hold (ruled m g) l p t clause ≡ true → bolts_hold (ruled m f) l p s clause ≡ true
   bolts_lower l p Shear = shear_lower l

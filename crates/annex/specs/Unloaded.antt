@@ -1,10 +1,11 @@
 -- A component that meets every layout clause meets every strength clause without force: no right side is negative.
-use Rattle.std.specs.Prelude.{◌≡◌, ℕ, zero, suc, ◌+◌, ◌-◌, ◌*◌, ◌≤◌, min, true, false, ℤ, pos, negsuc, ◌-ℤ◌, ◌*ℤ◌, int_le, int_lt, nat_le}
-use Rattle.std.proofs.Common.{⊎_elim, mul-zero, zero-mul, suc-mul, one-mul, arith, lit≤}
+use Rattle.std.specs.Prelude.{◌≡◌, ℕ, zero, suc, ◌+◌, ◌-◌, ◌*◌, ◌≤◌, min, true, false, ℤ, pos, ◌-ℤ◌, ◌*ℤ◌, int_le, nat_le}
+use Rattle.std.proofs.Common.{mul-zero, zero-mul, suc-mul, one-mul, arith, lit≤}
 use Rattle.std.specs.Int.{int_min}
 use Rattle.std.proofs.lemmas.Nat.{mul-le}
+use Rattle.std.proofs.lemmas.Bool.Decides.{nat_tests}
 use Rattle.std.proofs.lemmas.Int.{ints}
-use Rattle.std.proofs.lemmas.Bool.{leb-true, le-leb, lt-leb, and_from, or_cases, cond_both, both_ways, false≢true}
+use Rattle.std.proofs.lemmas.Bool.{le-leb, lt-leb, and_from}
 use Rattle.stock.specs.Tables.{hole_diameter}
 use Rattle.stock.specs.declared.makes.Make.{Make}
 use Rattle.stock.specs.declared.makes.Make.TheVariants.{En, SeA}
@@ -25,7 +26,7 @@ use Rattle.strength.specs.declared.BoltClause.{BoltClause}
 use Rattle.strength.specs.declared.BoltClause.TheVariants.{Shear, Tension, Combined, Bearing, Gross, Net}
 use Rattle.strength.specs.declared.WeldClause.{WeldClause}
 use Rattle.strength.specs.declared.WeldClause.TheVariants.{CombinedStress, NormalStress}
-use Rattle.layout.specs.Layout.{min_end, min_pitch, bolts_laid_out}
+use Rattle.layout.specs.Layout.{bolts_laid_out}
 use Rattle.strength.specs.Bolts.{shear_limit, tension_share}
 use Rattle.strength.specs.Bearing.{least_with_pitch, end_ratio, bearing_stress, edge_ratio, bearing_met}
 use Rattle.strength.specs.Sections.{holes_width}
@@ -36,7 +37,7 @@ use Rattle.annex.specs.Forms.{signed_lower, any_met}
 
 -- nothing is within any limit
 zero_within : (w r : ℕ) → nat_le (w * 0) r ≡ true
-zero_within w r = le-leb (w * 0) r (omega (arith, mul-zero w))
+zero_within w r = grind (arith, mul-zero)
 
 -- a signed number that is not negative
 record Above (z : ℤ) : Type 0 where
@@ -49,33 +50,20 @@ above_difference : (a b : ℕ) → b ≤ a → Above (pos a -ℤ pos b)
 above_difference a b h = record { sign = grind (arith, ints) }
 
 above_least : (x y : ℤ) → Above x → Above y → Above (int_min x y)
-above_least x y p q = cond_both (int_lt y x) y x Above (λ e. q) (λ e. p)
+above_least x y p q = grind (arith, nat_tests)
 
 above_product : (x y : ℤ) → Above x → Above y → Above (x *ℤ y)
-above_product (pos a) (pos b) p q = above_number (a * b)
-above_product (pos a) (negsuc b) p q = absurd (false≢true q.sign)
-above_product (negsuc a) y p q = absurd (false≢true p.sign)
+above_product x y p q = grind (arith, nat_tests)
 
 above_pitch : (s : Spacing) (term x : ℤ) → (single s ≡ false → Above term) → Above x → Above (least_with_pitch s term x)
-above_pitch s term x p q = cond_both (single s) x (int_min term x) Above (λ e. q) (λ e. above_least term x (p e) q)
+above_pitch s term x p q = grind (arith, nat_tests)
 
 -- What the layout clauses leave of a direction, for both makes: e is at least 1.2 d0, and p at least 2.2 d0.
 abbrev Spread : Spacing → ℕ → Type 0
 Spread s d0 = (12 * d0 ≤ 10 * s.end) × (single s ≡ false → 22 * d0 ≤ 10 * s.pitch)
 
-min_end_least : (m : Make) (d : Direction) → 12 ≤ min_end m d
-min_end_least m d = grind arith
-
-min_pitch_least : (m : Make) (d : Direction) → 22 ≤ min_pitch m d
-min_pitch_least m d = grind arith
-
 spread : (m : Make) (l : BoltLayout) (t : ℕ) (d : Direction) → bolts_laid_out m l t (MinEnd d) ≡ true → bolts_laid_out m l t (MinPitch d) ≡ true → Spread (spacing_in d l) (hole_diameter l.size)
-spread m l t d e p = (
-  omega (arith, mul-le 12 (hole_diameter l.size) (min_end m d) (hole_diameter l.size) (min_end_least m d) (omega arith), leb-true _ _ e),
-  λ more. ⊎_elim (λ one. absurd (both_ways (single (spacing_in d l)) more one))
-      (λ h. omega (arith, mul-le 22 (hole_diameter l.size) (min_pitch m d) (hole_diameter l.size) (min_pitch_least m d) (omega arith), leb-true _ _ h))
-      (or_cases _ _ p),
-)
+spread m l t d e p = grind (arith, nat_tests)
 
 stress_above : (s : Spacing) (d0 fub fu : ℕ) → Spread s d0 → Above (bearing_stress s d0 fub fu)
 stress_above s d0 fub fu h =
