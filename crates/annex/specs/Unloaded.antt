@@ -1,14 +1,12 @@
 -- A component that meets every layout clause meets every strength clause without force: no right side is negative.
-use Rattle.std.specs.Prelude.{◌≡◌, ℕ, zero, suc, ◌+◌, ◌-◌, ◌*◌, ◌≤◌, min, true, false, ℤ, pos, ◌-ℤ◌, ◌*ℤ◌, int_le, nat_le}
+use Rattle.std.specs.Prelude.{◌≡◌, ℕ, zero, suc, ◌+◌, ◌-◌, ◌*◌, ◌≤◌, true, false, ℤ, pos, ◌*ℤ◌, int_le, nat_le}
 use Rattle.std.proofs.Common.{mul-zero, zero-mul, suc-mul, one-mul, arith, lit≤}
 use Rattle.std.specs.Int.{int_min}
 use Rattle.std.proofs.lemmas.Nat.{mul-le}
 use Rattle.std.proofs.lemmas.Bool.Decides.{nat_tests}
-use Rattle.std.proofs.lemmas.Int.{ints}
 use Rattle.std.proofs.lemmas.Bool.{le-leb, lt-leb, and_from}
 use Rattle.stock.specs.Tables.{hole_diameter}
 use Rattle.stock.specs.declared.makes.Make.{Make}
-use Rattle.stock.specs.declared.makes.Make.TheVariants.{En, SeA}
 use Rattle.parts.specs.declared.plates.Plate.{Plate}
 use Rattle.parts.specs.declared.welds.Weld.{Weld}
 use Rattle.bolting.specs.declared.bolt_groups.BoltGroup.{BoltGroup}
@@ -25,10 +23,9 @@ use Rattle.parts.specs.declared.annexes.Rules.{Rules}
 use Rattle.strength.specs.declared.BoltClause.{BoltClause}
 use Rattle.strength.specs.declared.BoltClause.TheVariants.{Shear, Tension, Combined, Bearing, Gross, Net}
 use Rattle.strength.specs.declared.WeldClause.{WeldClause}
-use Rattle.strength.specs.declared.WeldClause.TheVariants.{CombinedStress, NormalStress}
 use Rattle.layout.specs.Layout.{bolts_laid_out}
 use Rattle.strength.specs.Bolts.{shear_limit, tension_share}
-use Rattle.strength.specs.Bearing.{least_with_pitch, end_ratio, bearing_stress, edge_ratio, bearing_met}
+use Rattle.strength.specs.Bearing.{bearing_stress, edge_ratio, bearing_met}
 use Rattle.strength.specs.Sections.{holes_width}
 use Rattle.strength.specs.Strength.{bolt_clause_numbered, weld_clause_numbered, bolts_hold, welds_hold}
 use Rattle.annex.specs.Facts.{LaidOut, no_force, UnloadedMet}
@@ -46,17 +43,11 @@ record Above (z : ℤ) : Type 0 where
 above_number : (n : ℕ) → Above (pos n)
 above_number n = record { sign = le-leb 0 n (omega arith) }
 
-above_difference : (a b : ℕ) → b ≤ a → Above (pos a -ℤ pos b)
-above_difference a b h = record { sign = grind (arith, ints) }
-
 above_least : (x y : ℤ) → Above x → Above y → Above (int_min x y)
 above_least x y p q = grind (arith, nat_tests)
 
 above_product : (x y : ℤ) → Above x → Above y → Above (x *ℤ y)
 above_product x y p q = grind (arith, nat_tests)
-
-above_pitch : (s : Spacing) (term x : ℤ) → (single s ≡ false → Above term) → Above x → Above (least_with_pitch s term x)
-above_pitch s term x p q = grind (arith, nat_tests)
 
 -- What the layout clauses leave of a direction, for both makes: e is at least 1.2 d0, and p at least 2.2 d0.
 abbrev Spread : Spacing → ℕ → Type 0
@@ -66,20 +57,10 @@ spread : (m : Make) (l : BoltLayout) (t : ℕ) (d : Direction) → bolts_laid_ou
 spread m l t d e p = grind (arith, nat_tests)
 
 stress_above : (s : Spacing) (d0 fub fu : ℕ) → Spread s d0 → Above (bearing_stress s d0 fub fu)
-stress_above s d0 fub fu h =
-    above_least (pos fu *ℤ end_ratio s d0) (pos (12 * d0 * fub))
-    (above_product (pos fu) (end_ratio s d0) (above_number fu)
-    (above_pitch s (pos (4 * s.pitch) -ℤ pos (3 * d0)) (pos (min (4 * s.end) (12 * d0)))
-    (λ e. above_difference (4 * s.pitch) (3 * d0) (omega (arith, h.1 e)))
-    (above_number (min (4 * s.end) (12 * d0)))))
-    (above_number (12 * d0 * fub))
+stress_above s d0 fub fu h = grind (arith, nat_tests, above_product, above_least)
 
 edge_above : (m : Make) (s : Spacing) (d0 : ℕ) → Spread s d0 → Above (edge_ratio m s d0)
-edge_above En s d0 h =
-    above_pitch s (pos (14 * s.pitch) -ℤ pos (17 * d0)) (int_min (pos (28 * s.end) -ℤ pos (17 * d0)) (pos (25 * d0)))
-    (λ e. above_difference (14 * s.pitch) (17 * d0) (omega (arith, h.1 e)))
-    (above_least (pos (28 * s.end) -ℤ pos (17 * d0)) (pos (25 * d0)) (above_difference (28 * s.end) (17 * d0) (omega (arith, h.0))) (above_number (25 * d0)))
-edge_above SeA s d0 h = above_number (25 * d0)
+edge_above m s d0 h = grind (arith, nat_tests)
 
 -- the holes of a row leave some of the width
 holes_fit : (c d0 e p : ℕ) → 12 * d0 ≤ 10 * e → (nat_le c 1 ≡ false → 22 * d0 ≤ 10 * p) → c * d0 ≤ 2 * e + (c - 1) * p
@@ -113,8 +94,7 @@ module _ (r : Rules) (l : BoltLayout) (p : Plates) (laid : (d : Direction) → S
       (zero_within (10 * r.factors.gamma_m2) _)
 
 welds_unloaded : (r : Rules) (w : Weld) (p : Plates) (clause : WeldClause) → welds_hold r w p no_force clause ≡ true
-welds_unloaded r w p CombinedStress = zero_within _ _
-welds_unloaded r w p NormalStress = zero_within _ _
+welds_unloaded r w p clause = grind (arith, mul-zero)
 
 -- the layout clauses 11 to 14 are what counts here
 laid_spread : (r : Rules) (g : BoltGroup) (p : Plates) → LaidOut (rules_meaning r) (Bolted g p) → (d : Direction) → Spread (spacing_in d g.layout) (hole_diameter g.layout.size)
