@@ -24,7 +24,6 @@ use Rattle.strength.specs.declared.BoltClause.{BoltClause}
 use Rattle.strength.specs.declared.BoltClause.TheVariants.{Shear, Tension, Combined, Bearing, Gross, Net}
 use Rattle.strength.specs.declared.WeldClause.{WeldClause}
 use Rattle.layout.specs.Layout.{bolts_laid_out}
-use Rattle.strength.specs.Bolts.{shear_limit, tension_share}
 use Rattle.strength.specs.Bearing.{bearing_stress, edge_ratio, bearing_met}
 use Rattle.strength.specs.Sections.{holes_width}
 use Rattle.strength.specs.Strength.{bolt_clause_numbered, weld_clause_numbered, bolts_hold, welds_hold}
@@ -84,8 +83,7 @@ module _ (r : Rules) (l : BoltLayout) (p : Plates) (laid : (d : Direction) → S
   bolts_unloaded : (clause : BoltClause) → bolts_hold r l p no_force clause ≡ true
   bolts_unloaded Shear = zero_within _ _
   bolts_unloaded Tension = zero_within _ _
-  bolts_unloaded Combined =
-      and_from (nat_le (tension_share r l no_force) (shear_limit r l)) _ (zero_within _ _) (zero_within (630 * r.factors.gamma_m2 * (630 * r.factors.gamma_m2)) _)
+  bolts_unloaded Combined = grind (arith, nat_tests, mul-zero)
   bolts_unloaded (Bearing d side) = bearing_unloaded (plate_on side p) d
   bolts_unloaded (Gross side) = zero_within _ _
   bolts_unloaded (Net side) =
