@@ -6,7 +6,7 @@
 use annex::Annex;
 use bolting::bolt_groups::BoltGroupEntry;
 use components::{Component, Plates, Sizes};
-use parts::annexes::{AnnexEntry, Rules};
+use parts::annexes::AnnexEntry;
 use parts::entries::Entry;
 use parts::plates::{Plate, PlateEntry};
 use parts::welds::WeldEntry;
@@ -53,7 +53,7 @@ fn component(numbers: &[i64]) -> Option<Component> {
     }
 }
 
-fn answer(annex: &Rules, component: &Component, clause: u8, sizes: Sizes) -> bool {
+fn answer(annex: &impl Annex, component: &Component, clause: u8, sizes: Sizes) -> bool {
     if clause < 30 {
         annex.layout_met(component, clause)
     } else {
@@ -94,7 +94,7 @@ fn numbers(rt: &HostRuntime, row: &str) -> anyhow::Result<Vec<i64>> {
     Ok(numbers)
 }
 
-// Asks a row of a table, and says if it differs.
+// Does the annex agree with a row of a table? A row that differs is printed.
 fn ask_row(rt: &HostRuntime, name: &str, row: &str) -> anyhow::Result<bool> {
     let agrees = agrees(numbers(rt, row)?.as_slice()) == Some(true);
     if !agrees {
@@ -103,7 +103,7 @@ fn ask_row(rt: &HostRuntime, name: &str, row: &str) -> anyhow::Result<bool> {
     Ok(agrees)
 }
 
-// Asks every row of a table, and says how many agree.
+// Asks every row of a table, and prints how many agree.
 fn ask(rt: &HostRuntime, name: &str) -> anyhow::Result<()> {
     let table = fs::read_to_string(rt, format!(in rt.alloc(); "{name}.txt")?.as_str())?;
     let mut agreed = Vec::new(rt.alloc());

@@ -88,8 +88,8 @@ impl LoadedBolts<'_> {
     }
 }
 
-// Products that are wider than their factors, so that none can overflow. As a trait they would be no
-// plainer: an impl for each of the two widths, with the fact that it states here.
+// Products that are wider than their factors, so that none can overflow.
+// No trait, since it would say the fact and the body of each of the two widths again.
 fn product_i64(a: u32, b: i32) -> i64
     ensures { result ≡ pos a *ℤ b }
 {
