@@ -3,19 +3,18 @@
 use Rattle.std.specs.Prelude.{◌≡◌, ℕ, ◌+◌, ◌*◌, ◌≤◌, true}
 use Rattle.std.proofs.Common.{arith}
 use Rattle.std.proofs.lemmas.Nat.{mul-le}
+use Rattle.std.proofs.lemmas.Bool.Decides.{nat_tests}
 use Rattle.stock.specs.declared.makes.Make.{Make}
 use Rattle.parts.specs.declared.plates.Plate.{Plate}
 use Rattle.parts.specs.declared.welds.Weld.{Weld}
 use Rattle.bolting.specs.declared.bolt_groups.BoltLayout.{BoltLayout}
 use Rattle.bolting.specs.declared.bolt_groups.Direction.{Direction}
-use Rattle.bolting.specs.declared.bolt_groups.Direction.TheVariants.{Along, Across}
 use Rattle.components.specs.declared.Component.{Component}
 use Rattle.components.specs.declared.Component.TheVariants.{Bolted, Welded}
 use Rattle.components.specs.declared.Plates.{Plates}
 use Rattle.components.specs.declared.Sizes.{Sizes}
 use Rattle.components.specs.Parts.{plate_on, size_in}
-use Rattle.strength.specs.declared.rules.Factors.{Factors}
-use Rattle.strength.specs.declared.rules.Rules.{Rules}
+use Rattle.parts.specs.declared.annexes.Factors.{Factors}
 use Rattle.strength.specs.declared.BoltClause.{BoltClause}
 use Rattle.strength.specs.declared.BoltClause.TheVariants.{Shear, Tension, Combined, Bearing, Gross, Net}
 use Rattle.strength.specs.declared.WeldClause.{WeldClause}
@@ -26,11 +25,8 @@ use Rattle.strength.specs.Sections.{gross_met, net_met}
 use Rattle.strength.specs.Welds.{combined_stress_met, normal_stress_met, stress_square, weld_factor}
 use Rattle.strength.specs.Strength.{bolt_clause_numbered, weld_clause_numbered, in_range, bolts_hold, welds_hold, strength_met}
 use Rattle.annex.specs.Facts.{NoLarger}
-use Rattle.annex.specs.Makes.{NoSmaller}
+use Rattle.annex.specs.Makes.{ruled, NoSmaller}
 use Rattle.annex.specs.Forms.{within_lower, root_lower, signed_lower, both_lower, any_lower}
-
-abbrev ruled : Make → Factors → Rules
-ruled m f = record { make = m; factors = f }
 
 -- f and s are no larger than g and t
 module _ (m : Make) (f g : Factors) (less : NoSmaller g f) (s t : Sizes) (no : NoLarger s t) where
@@ -65,8 +61,7 @@ module _ (m : Make) (f g : Factors) (less : NoSmaller g f) (s t : Sizes) (no : N
       (root_lower _ _ _ _ _ _ (weighted 630) shear_square_lower (omega arith))
 
   size_lower : (d : Direction) → size_in d s ≤ size_in d t
-  size_lower Along = no.0
-  size_lower Across = no.1
+  size_lower d = grind arith
 
   bearing_lower : (l : BoltLayout) (p : Plate) (d : Direction) → bearing_met (ruled m g) l p d t ≡ true → bearing_met (ruled m f) l p d s ≡ true
   bearing_lower l p d = signed_lower _ _ _ (mul-le _ _ _ _ (mul-le _ _ _ _ (weighted 120) (omega arith)) (size_lower d))
@@ -86,10 +81,7 @@ module _ (m : Make) (f g : Factors) (less : NoSmaller g f) (s t : Sizes) (no : N
       within_lower _ _ _ _ (mul-le _ _ _ _ (mul-le _ _ _ _ (weighted 50) (weighted 50)) (mul-le _ _ _ _ sum sum)) (omega arith)
 
   range_lower : in_range t ≡ true → in_range s ≡ true
-  range_lower =
-      both_lower _ _ _ _
-      (both_lower _ _ _ _ (within_lower _ _ _ _ no.0 (omega arith)) (within_lower _ _ _ _ no.1 (omega arith)))
-      (within_lower _ _ _ _ no.2 (omega arith))
+  range_lower e = grind (arith, nat_tests)
 
   bolts_lower : (l : BoltLayout) (p : Plates) (clause : BoltClause) → bolts_hold (ruled m g) l p t clause ≡ true → bolts_hold (ruled m f) l p s clause ≡ true
   bolts_lower l p Shear = shear_lower l

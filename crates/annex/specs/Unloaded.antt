@@ -1,13 +1,12 @@
 -- A component that meets every layout clause meets every strength clause without force: no right side is negative.
-use Rattle.std.specs.Prelude.{◌≡◌, ℕ, zero, suc, ◌+◌, ◌-◌, ◌*◌, ◌≤◌, min, true, false, ℤ, pos, negsuc, ◌-ℤ◌, ◌*ℤ◌, int_le, int_lt, nat_le, refl}
-use Rattle.std.proofs.Common.{ap, ⊎_elim, mul-zero, zero-mul, suc-mul, one-mul, arith, lit≤}
+use Rattle.std.specs.Prelude.{◌≡◌, ℕ, zero, suc, ◌+◌, ◌-◌, ◌*◌, ◌≤◌, true, false, ℤ, pos, ◌*ℤ◌, int_le, nat_le}
+use Rattle.std.proofs.Common.{mul-zero, zero-mul, suc-mul, one-mul, arith, lit≤}
 use Rattle.std.specs.Int.{int_min}
 use Rattle.std.proofs.lemmas.Nat.{mul-le}
-use Rattle.std.proofs.lemmas.Int.{ints}
-use Rattle.std.proofs.lemmas.Bool.{leb-true, le-leb, lt-leb, and_from, or_cases, cond_both, both_ways, false≢true}
+use Rattle.std.proofs.lemmas.Bool.Decides.{nat_tests}
+use Rattle.std.proofs.lemmas.Bool.{le-leb, lt-leb, and_from}
 use Rattle.stock.specs.Tables.{hole_diameter}
 use Rattle.stock.specs.declared.makes.Make.{Make}
-use Rattle.stock.specs.declared.makes.Make.TheVariants.{En, SeA}
 use Rattle.parts.specs.declared.plates.Plate.{Plate}
 use Rattle.parts.specs.declared.welds.Weld.{Weld}
 use Rattle.bolting.specs.declared.bolt_groups.BoltGroup.{BoltGroup}
@@ -15,19 +14,17 @@ use Rattle.bolting.specs.declared.bolt_groups.BoltLayout.{BoltLayout}
 use Rattle.bolting.specs.declared.bolt_groups.Direction.{Direction}
 use Rattle.bolting.specs.declared.bolt_groups.Direction.TheVariants.{Along, Across}
 use Rattle.bolting.specs.declared.bolt_groups.Spacing.{Spacing}
-use Rattle.bolting.specs.Layouts.{plate_width, spacing_in, single}
+use Rattle.bolting.specs.Layouts.{other_direction, plate_width, spacing_in, single}
 use Rattle.components.specs.declared.Component.TheVariants.{Bolted, Welded}
 use Rattle.components.specs.declared.Plates.{Plates}
 use Rattle.components.specs.Parts.{plate_on, size_in, thinner}
 use Rattle.layout.specs.declared.BoltClause.TheVariants.{MinEnd, MinPitch}
-use Rattle.strength.specs.declared.rules.Rules.{Rules}
+use Rattle.parts.specs.declared.annexes.Rules.{Rules}
 use Rattle.strength.specs.declared.BoltClause.{BoltClause}
 use Rattle.strength.specs.declared.BoltClause.TheVariants.{Shear, Tension, Combined, Bearing, Gross, Net}
 use Rattle.strength.specs.declared.WeldClause.{WeldClause}
-use Rattle.strength.specs.declared.WeldClause.TheVariants.{CombinedStress, NormalStress}
-use Rattle.layout.specs.Layout.{min_end, min_pitch, bolts_laid_out}
-use Rattle.strength.specs.Bolts.{root_within, shear_limit, tension_share}
-use Rattle.strength.specs.Bearing.{least_with_pitch, end_ratio, bearing_stress, edge_ratio, other_direction, bearing_weight, bearing_met}
+use Rattle.layout.specs.Layout.{bolts_laid_out}
+use Rattle.strength.specs.Bearing.{bearing_stress, edge_ratio, bearing_met}
 use Rattle.strength.specs.Sections.{holes_width}
 use Rattle.strength.specs.Strength.{bolt_clause_numbered, weld_clause_numbered, bolts_hold, welds_hold}
 use Rattle.annex.specs.Facts.{LaidOut, no_force, UnloadedMet}
@@ -36,7 +33,7 @@ use Rattle.annex.specs.Forms.{signed_lower, any_met}
 
 -- nothing is within any limit
 zero_within : (w r : ℕ) → nat_le (w * 0) r ≡ true
-zero_within w r = le-leb (w * 0) r (omega (arith, mul-zero w))
+zero_within w r = grind (arith, mul-zero)
 
 -- a signed number that is not negative
 record Above (z : ℤ) : Type 0 where
@@ -45,57 +42,24 @@ record Above (z : ℤ) : Type 0 where
 above_number : (n : ℕ) → Above (pos n)
 above_number n = record { sign = le-leb 0 n (omega arith) }
 
-above_difference : (a b : ℕ) → b ≤ a → Above (pos a -ℤ pos b)
-above_difference a b h = record { sign = grind (arith, ints) }
-
 above_least : (x y : ℤ) → Above x → Above y → Above (int_min x y)
-above_least x y p q = cond_both (int_lt y x) y x Above (λ e. q) (λ e. p)
+above_least x y p q = grind (arith, nat_tests)
 
 above_product : (x y : ℤ) → Above x → Above y → Above (x *ℤ y)
-above_product (pos a) (pos b) p q = above_number (a * b)
-above_product (pos a) (negsuc b) p q = absurd (false≢true q.sign)
-above_product (negsuc a) y p q = absurd (false≢true p.sign)
-
-above_pitch : (s : Spacing) (term x : ℤ) → (single s ≡ false → Above term) → Above x → Above (least_with_pitch s term x)
-above_pitch s term x p q = cond_both (single s) x (int_min term x) Above (λ e. q) (λ e. above_least term x (p e) q)
+above_product x y p q = grind (arith, nat_tests)
 
 -- What the layout clauses leave of a direction, for both makes: e is at least 1.2 d0, and p at least 2.2 d0.
 abbrev Spread : Spacing → ℕ → Type 0
 Spread s d0 = (12 * d0 ≤ 10 * s.end) × (single s ≡ false → 22 * d0 ≤ 10 * s.pitch)
 
-min_end_least : (m : Make) (d : Direction) → 12 ≤ min_end m d
-min_end_least m Along = lit≤ tt
-min_end_least En Across = lit≤ tt
-min_end_least SeA Across = lit≤ tt
-
-min_pitch_least : (m : Make) (d : Direction) → 22 ≤ min_pitch m d
-min_pitch_least m Along = lit≤ tt
-min_pitch_least En Across = lit≤ tt
-min_pitch_least SeA Across = lit≤ tt
-
 spread : (m : Make) (l : BoltLayout) (t : ℕ) (d : Direction) → bolts_laid_out m l t (MinEnd d) ≡ true → bolts_laid_out m l t (MinPitch d) ≡ true → Spread (spacing_in d l) (hole_diameter l.size)
-spread m l t d e p = (
-  omega (arith, mul-le 12 (hole_diameter l.size) (min_end m d) (hole_diameter l.size) (min_end_least m d) (omega arith), leb-true _ _ e),
-  λ more. ⊎_elim (λ one. absurd (both_ways (single (spacing_in d l)) more one))
-      (λ h. omega (arith, mul-le 22 (hole_diameter l.size) (min_pitch m d) (hole_diameter l.size) (min_pitch_least m d) (omega arith), leb-true _ _ h))
-      (or_cases _ _ p),
-)
+spread m l t d e p = grind (arith, nat_tests)
 
 stress_above : (s : Spacing) (d0 fub fu : ℕ) → Spread s d0 → Above (bearing_stress s d0 fub fu)
-stress_above s d0 fub fu h =
-    above_least (pos fu *ℤ end_ratio s d0) (pos (12 * d0 * fub))
-    (above_product (pos fu) (end_ratio s d0) (above_number fu)
-    (above_pitch s (pos (4 * s.pitch) -ℤ pos (3 * d0)) (pos (min (4 * s.end) (12 * d0)))
-    (λ e. above_difference (4 * s.pitch) (3 * d0) (omega (arith, h.1 e)))
-    (above_number (min (4 * s.end) (12 * d0)))))
-    (above_number (12 * d0 * fub))
+stress_above s d0 fub fu h = grind (arith, nat_tests, above_product, above_least)
 
 edge_above : (m : Make) (s : Spacing) (d0 : ℕ) → Spread s d0 → Above (edge_ratio m s d0)
-edge_above En s d0 h =
-    above_pitch s (pos (14 * s.pitch) -ℤ pos (17 * d0)) (int_min (pos (28 * s.end) -ℤ pos (17 * d0)) (pos (25 * d0)))
-    (λ e. above_difference (14 * s.pitch) (17 * d0) (omega (arith, h.1 e)))
-    (above_least (pos (28 * s.end) -ℤ pos (17 * d0)) (pos (25 * d0)) (above_difference (28 * s.end) (17 * d0) (omega (arith, h.0))) (above_number (25 * d0)))
-edge_above SeA s d0 h = above_number (25 * d0)
+edge_above m s d0 h = grind (arith, nat_tests)
 
 -- the holes of a row leave some of the width
 holes_fit : (c d0 e p : ℕ) → 12 * d0 ≤ 10 * e → (nat_le c 1 ≡ false → 22 * d0 ≤ 10 * p) → c * d0 ≤ 2 * e + (c - 1) * p
@@ -107,24 +71,19 @@ holes_fit (suc (suc n)) d0 e p h k =
     rw rest (omega (arith, suc-mul (suc n) d0, mul-le (suc n) d0 (suc n) p (omega arith) (omega arith)))
 
 module _ (r : Rules) (l : BoltLayout) (p : Plates) (laid : (d : Direction) → Spread (spacing_in d l) (hole_diameter l.size)) where
-  no_size : (d : Direction) → size_in d no_force ≡ 0
-  no_size Along = refl
-  no_size Across = refl
+  no_force_weighs : (w : ℕ) (d : Direction) → w * size_in d no_force ≤ 0
+  no_force_weighs w d = grind (arith, mul-zero)
 
   bearing_unloaded : (q : Plate) (d : Direction) → bearing_met r l q d no_force ≡ true
   bearing_unloaded q d =
-      let none : bearing_weight r.factors.gamma_m2 (hole_diameter l.size) * size_in d no_force ≤ 0 =
-      omega (arith, ap (λ n. bearing_weight r.factors.gamma_m2 (hole_diameter l.size) * n) (no_size d), mul-zero (bearing_weight r.factors.gamma_m2 (hole_diameter l.size))) in
-      signed_lower _ 0 _ none
+      signed_lower _ 0 _ (no_force_weighs _ d)
       (above_product _ _ (stress_above (spacing_in d l) (hole_diameter l.size) _ _ (laid d))
       (above_product _ _ (above_number _) (edge_above r.make (spacing_in (other_direction d) l) (hole_diameter l.size) (laid (other_direction d))))).sign
 
   bolts_unloaded : (clause : BoltClause) → bolts_hold r l p no_force clause ≡ true
   bolts_unloaded Shear = zero_within _ _
   bolts_unloaded Tension = zero_within _ _
-  bolts_unloaded Combined =
-      and_from (nat_le (tension_share r l no_force) (shear_limit r l)) (root_within (630 * r.factors.gamma_m2) 0 (shear_limit r l - tension_share r l no_force))
-      (zero_within _ _) (zero_within _ _)
+  bolts_unloaded Combined = grind (arith, nat_tests, mul-zero)
   bolts_unloaded (Bearing d side) = bearing_unloaded (plate_on side p) d
   bolts_unloaded (Gross side) = zero_within _ _
   bolts_unloaded (Net side) =
@@ -133,8 +92,7 @@ module _ (r : Rules) (l : BoltLayout) (p : Plates) (laid : (d : Direction) → S
       (zero_within (10 * r.factors.gamma_m2) _)
 
 welds_unloaded : (r : Rules) (w : Weld) (p : Plates) (clause : WeldClause) → welds_hold r w p no_force clause ≡ true
-welds_unloaded r w p CombinedStress = zero_within _ _
-welds_unloaded r w p NormalStress = zero_within _ _
+welds_unloaded r w p clause = grind (arith, mul-zero)
 
 -- the layout clauses 11 to 14 are what counts here
 laid_spread : (r : Rules) (g : BoltGroup) (p : Plates) → LaidOut (rules_meaning r) (Bolted g p) → (d : Direction) → Spread (spacing_in d g.layout) (hole_diameter g.layout.size)

@@ -11,10 +11,11 @@ use Rattle.components.specs.declared.Component.{Component}
 use Rattle.components.specs.declared.Component.TheVariants.{Bolted, Welded}
 use Rattle.components.specs.declared.Plates.{Plates}
 use Rattle.components.specs.declared.Sizes.{Sizes}
-use Rattle.strength.specs.declared.rules.Factors.{Factors}
+use Rattle.stock.specs.declared.makes.Make.TheVariants.{En, SeA}
+use Rattle.parts.specs.declared.annexes.Factors.{Factors}
 use Rattle.annex.specs.Meaning.{Meaning}
 use Rattle.annex.specs.Facts.{LaidOut, Withstands}
-use Rattle.annex.specs.Makes.{en_meaning, sea_meaning}
+use Rattle.annex.specs.Makes.{ruled, rules_meaning}
 
 -- two plates of 10 mm, S275
 abbrev plate : ℕ → Plate
@@ -59,10 +60,10 @@ abbrev pub factors_en : Factors
 factors_en = record { gamma_m0 = 100; gamma_m2 = 125 }
 
 abbrev pub en : Meaning
-en = en_meaning (record { factors = factors_en })
+en = rules_meaning (ruled En factors_en)
 
 abbrev pub sea : Meaning
-sea = sea_meaning (record { factors = record { gamma_m0 = 105; gamma_m2 = 125 } })
+sea = rules_meaning (ruled SeA (record { gamma_m0 = 105; gamma_m2 = 125 }))
 
 abbrev pub force_1_alone : ℕ → Sizes
 force_1_alone n = record { s1 = n; s2 = 0; s3 = 0 }

@@ -1,15 +1,19 @@
-// Annexes: the interface, and its two makes.
+// Annexes: the interface, and the annex of each make.
 #![tactic(auto)]
 
 ghost use Rattle.std.specs.Prelude.{◌≡◌};
+ghost use Rattle.parts.specs.Entries.{annex_checked};
 ghost use Rattle.annex.specs.Meaning.{Meaning};
 ghost use Rattle.annex.specs.Facts.{SmallerMet, UnloadedMet};
+ghost use Rattle.annex.specs.Makes.{rules_meaning, Stricter};
+ghost use Rattle.annex.specs.Worked.{WorkedJoints};
+ghost use Rattle.annex.specs.FactsLemmas.{rules_lighter};
+ghost use Rattle.annex.specs.Unloaded.{rules_unloaded};
 
 use components::{Component, Sizes};
-
-pub mod chosen;
-pub mod en;
-pub mod sea;
+use parts::annexes::{AnnexEntry, Rules};
+use parts::entries::Entry;
+use parts::limits::OutOfLimits;
 
 // A set of clauses by which components are judged. Layout clauses bear the numbers 11 to 29, strength
 // clauses 31 to 69; a clause that the annex lacks for a kind of component is met.
@@ -17,6 +21,7 @@ pub trait Annex {
     // the yes or no to every question
     ghost meaning: { Self → Meaning };
 
+    // Clauses go by numbers and no enum, since an annex answers for every number, and reports print it.
     fn layout_met(&self, component: &Component, clause: u8) -> bool
         ensures { result ≡ (meaning self.now).layout component.now clause };
 
@@ -28,4 +33,30 @@ pub trait Annex {
 
     // what is laid out well withstands no force at all
     ghost unloaded: { (x : Self) → UnloadedMet (meaning x) };
+}
+
+impl Annex for Rules {
+    ghost meaning = { rules_meaning };
+
+    ghost lighter = { rules_lighter };
+
+    ghost unloaded = { rules_unloaded };
+
+    fn layout_met(&self, component: &Component, clause: u8) -> bool {
+        layout::layout_met(self.make, component, clause)
+    }
+
+    fn strength_met(&self, component: &Component, clause: u8, sizes: Sizes) -> bool {
+        strength::strength_met(*self, component, clause, sizes)
+    }
+}
+
+// The annex that an entry chooses, or its first field outside the limits.
+#[tactic(auto, using(crate::specs::FactsLemmas::stricter, crate::proofs::Worked::worked_joints))]
+pub fn of_entry(entry: AnnexEntry) -> Result<Rules, OutOfLimits>
+    ensures made { result ≡ annex_checked entry }
+    ensures worked { WorkedJoints }
+    ensures stricter { Stricter }
+{
+    entry.checked()
 }

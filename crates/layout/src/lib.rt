@@ -10,7 +10,7 @@ use parts::welds::Weld;
 use stock::makes::Make;
 
 // What a layout clause asks of a bolt group: along it of e1 and p1, across it of e2 and p2.
-#[derive(Clone, Copy)]
+#[derive(Clone, Copy, Debug, PartialEq, Eq)]
 pub enum BoltClause {
     MinEnd(Direction),
     MinPitch(Direction),
@@ -19,6 +19,7 @@ pub enum BoltClause {
 }
 
 impl BoltClause {
+    // No TryFrom, since a number without a clause is no error: what the make lacks is met.
     fn numbered(number: u8) -> Option<BoltClause>
         ensures { result ≡ bolt_clause_numbered number }
     {
@@ -37,7 +38,7 @@ impl BoltClause {
 }
 
 // What a layout clause asks of a weld; slenderness is its length by its throat.
-#[derive(Clone, Copy)]
+#[derive(Clone, Copy, Debug, PartialEq, Eq)]
 pub enum WeldClause {
     MinThroat,
     MaxThroat,
@@ -47,6 +48,7 @@ pub enum WeldClause {
 }
 
 impl WeldClause {
+    // No TryFrom, as above.
     fn numbered(number: u8) -> Option<WeldClause>
         ensures { result ≡ weld_clause_numbered number }
     {
@@ -67,14 +69,12 @@ pub fn layout_met(make: Make, component: &Component, clause: u8) -> bool
     ensures { result ≡ layout_met make component.now clause }
 {
     match component {
-        Component::Bolted(group, plates) => match BoltClause::numbered(clause) {
-            Some(clause) => bolts_laid_out(make, group.layout, plates.thinner(), clause),
-            None => true,
-        },
-        Component::Welded(weld, plates) => match WeldClause::numbered(clause) {
-            Some(clause) => weld_laid_out(make, *weld, plates.thinner(), clause),
-            None => true,
-        },
+        Component::Bolted(group, plates) => BoltClause::numbered(clause).is_none_or(
+            |clause| bolts_laid_out(make, group.layout, plates.thinner(), clause),
+        ),
+        Component::Welded(weld, plates) => WeldClause::numbered(clause).is_none_or(
+            |clause| weld_laid_out(make, *weld, plates.thinner(), clause),
+        ),
     }
 }
 

@@ -4,7 +4,6 @@
 #![tactic(auto)]
 
 use annex::Annex;
-use annex::chosen::Chosen;
 use bolting::bolt_groups::BoltGroupEntry;
 use components::{Component, Plates, Sizes};
 use parts::annexes::AnnexEntry;
@@ -42,92 +41,77 @@ fn component(numbers: &[i64]) -> Option<Component> {
     match numbers {
         [d, class, rows, columns, e1, p1, e2, p2, steel @ ..] if steel.len() == 4 => {
             let group = BoltGroupEntry::from([
-                7,
-                1,
-                2,
-                field(*d),
-                field(*class),
-                field(*rows),
-                field(*columns),
-                field(*e1),
-                field(*p1),
-                field(*e2),
-                field(*p2),
-            ]);
+                7, 1, 2, *d, *class, *rows, *columns, *e1, *p1, *e2, *p2,
+            ].map(field));
             Some(Component::Bolted(group.checked().ok()?, plates(steel)?))
         }
         [throat, length, steel @ ..] => {
-            let weld = WeldEntry::from([8, 1, 2, field(*throat), field(*length)]);
+            let weld = WeldEntry::from([8, 1, 2, *throat, *length].map(field));
             Some(Component::Welded(weld.checked().ok()?, plates(steel)?))
         }
         _ => None,
     }
 }
 
-// The annex's answer, put twice.
-fn answers(annex: Chosen, component: &Component, clause: u8, sizes: Sizes) -> (bool, bool) {
+fn answer(annex: &impl Annex, component: &Component, clause: u8, sizes: Sizes) -> bool {
     if clause < 30 {
-        (
-            annex.layout_met(component, clause),
-            annex.layout_met(component, clause),
-        )
+        annex.layout_met(component, clause)
     } else {
-        (
-            annex.strength_met(component, clause, sizes),
-            annex.strength_met(component, clause, sizes),
-        )
+        annex.strength_met(component, clause, sizes)
     }
 }
 
-// Does the annex answer the row as it should? A row that is none does not agree.
+// Does the annex answer the row as it should, each time that it is asked? A row that is none does not
+// agree.
 fn agrees(numbers: &[i64]) -> Option<bool> {
     let (joint, question) = numbers.split_at(numbers.len().saturating_sub(5));
     let [make, gamma_m0, gamma_m2, parts @ ..] = joint else {
         return None;
     };
-    let [clause, s1, s2, s3, answer] = question else {
+    let [clause, s1, s2, s3, expected] = question else {
         return None;
     };
-    let entry = AnnexEntry::from([field(*make), field(*gamma_m0), field(*gamma_m2)]);
-    let annex = Chosen::new(entry).ok()?;
+    let entry = AnnexEntry::from([*make, *gamma_m0, *gamma_m2].map(field));
+    let annex = annex::of_entry(entry).ok()?;
     let sizes = Sizes {
         s1: size(*s1),
         s2: size(*s2),
         s3: size(*s3),
     };
     let clause = u8::try_from(*clause).ok()?;
-    let expected = *answer == 1;
-    Some(answers(annex, &component(parts)?, clause, sizes) == (expected, expected))
+    let component = component(parts)?;
+    let ask = || answer(&annex, &component, clause, sizes);
+    let expected = *expected == 1;
+    Some(ask() == expected && ask() == expected)
 }
 
 // The numbers of a row, without its letter and bars.
 fn numbers(rt: &HostRuntime, row: &str) -> anyhow::Result<Vec<i64>> {
-    let mut numbers = Vec::new(rt.alloc());
-    for word in row.split_whitespace() {
-        if let Ok(number) = word.parse::<i64>() {
-            numbers.push(number)?;
-        }
-    }
+    let numbers = row
+        .split_whitespace()
+        .filter_map(|word| word.parse::<i64>().ok())
+        .collect(rt.alloc())?;
     Ok(numbers)
 }
 
-// Asks every row of a table, and says which differ.
+// Does the annex agree with a row of a table? A row that differs is printed.
+fn ask_row(rt: &HostRuntime, name: &str, row: &str) -> anyhow::Result<bool> {
+    let agrees = agrees(numbers(rt, row)?.as_slice()) == Some(true);
+    if !agrees {
+        println!(rt; "{name} differs: {row}")?;
+    }
+    Ok(agrees)
+}
+
+// Asks every row of a table, and prints how many agree.
 fn ask(rt: &HostRuntime, name: &str) -> anyhow::Result<()> {
     let table = fs::read_to_string(rt, format!(in rt.alloc(); "{name}.txt")?.as_str())?;
-    let mut rows: usize = 0;
-    let mut agreeing: usize = 0;
-    for row in table.as_str().lines() {
-        if row.starts_with('#') {
-            continue;
-        }
-        rows = rows.saturating_add(1);
-        if agrees(numbers(rt, row)?.as_slice()) == Some(true) {
-            agreeing = agreeing.saturating_add(1);
-        } else {
-            println!(rt; "{name} differs: {row}")?;
-        }
+    let mut agreed = Vec::new(rt.alloc());
+    for row in table.as_str().lines().filter(|row| !row.starts_with('#')) {
+        agreed.push(ask_row(rt, name, row)?)?;
     }
-    println!(rt; "{name}: {agreeing} of {rows} rows agree")?;
+    let agreeing = agreed.iter().filter(|agrees| **agrees).count();
+    println!(rt; "{name}: {agreeing} of {} rows agree", agreed.len())?;
     Ok(())
 }
 

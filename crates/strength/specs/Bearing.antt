@@ -10,12 +10,11 @@ use Rattle.stock.specs.declared.makes.Make.TheVariants.{En, SeA}
 use Rattle.parts.specs.declared.plates.Plate.{Plate}
 use Rattle.bolting.specs.declared.bolt_groups.BoltLayout.{BoltLayout}
 use Rattle.bolting.specs.declared.bolt_groups.Direction.{Direction}
-use Rattle.bolting.specs.declared.bolt_groups.Direction.TheVariants.{Along, Across}
 use Rattle.bolting.specs.declared.bolt_groups.Spacing.{Spacing}
-use Rattle.bolting.specs.Layouts.{bolt_count, spacing_in, single}
+use Rattle.bolting.specs.Layouts.{bolt_count, other_direction, spacing_in, single}
 use Rattle.components.specs.declared.Sizes.{Sizes}
 use Rattle.components.specs.Parts.{size_in}
-use Rattle.strength.specs.declared.rules.Rules.{Rules}
+use Rattle.parts.specs.declared.annexes.Rules.{Rules}
 
 -- the least of x and of the pitch's term; a line alone has no pitch
 abbrev pub least_with_pitch : Spacing → ℤ → ℤ → ℤ
@@ -43,10 +42,6 @@ en_edge_ratio s d0 =
 abbrev pub edge_ratio : Make → Spacing → ℕ → ℤ
 edge_ratio En s d0 = en_edge_ratio s d0
 edge_ratio SeA s d0 = full_edge_ratio d0
-
-abbrev pub other_direction : Direction → Direction
-other_direction Along = Across
-other_direction Across = Along
 
 -- γM2, times 120·d0²
 abbrev pub bearing_weight : ℕ → ℕ → ℕ

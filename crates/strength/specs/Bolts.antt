@@ -5,7 +5,7 @@ use Rattle.stock.specs.Tables.{bolt_strength, tensile_area, shear_factor}
 use Rattle.bolting.specs.declared.bolt_groups.BoltLayout.{BoltLayout}
 use Rattle.bolting.specs.Layouts.{bolt_count}
 use Rattle.components.specs.declared.Sizes.{Sizes}
-use Rattle.strength.specs.declared.rules.Rules.{Rules}
+use Rattle.parts.specs.declared.annexes.Rules.{Rules}
 
 -- w·√q ≤ r, squared
 abbrev pub root_within : ℕ → ℕ → ℕ → Bool

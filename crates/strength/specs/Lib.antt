@@ -1,4 +1,3 @@
-pub mod Factors
 pub mod Bolts
 pub mod Bearing
 pub mod Sections

@@ -5,7 +5,7 @@ use Rattle.parts.specs.declared.plates.Plate.{Plate}
 use Rattle.bolting.specs.declared.bolt_groups.BoltLayout.{BoltLayout}
 use Rattle.bolting.specs.Layouts.{plate_width}
 use Rattle.components.specs.declared.Sizes.{Sizes}
-use Rattle.strength.specs.declared.rules.Rules.{Rules}
+use Rattle.parts.specs.declared.annexes.Rules.{Rules}
 
 -- gross section, NEd ≤ Npl,Rd = A·fy/γM0:  γM0·s1 ≤ b·t·fy
 abbrev pub gross_met : Rules → BoltLayout → Plate → Sizes → Bool

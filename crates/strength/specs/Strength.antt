@@ -11,7 +11,7 @@ use Rattle.components.specs.declared.Plates.{Plates}
 use Rattle.components.specs.declared.Side.TheVariants.{A, B}
 use Rattle.components.specs.declared.Sizes.{Sizes}
 use Rattle.components.specs.Parts.{plate_on}
-use Rattle.strength.specs.declared.rules.Rules.{Rules}
+use Rattle.parts.specs.declared.annexes.Rules.{Rules}
 use Rattle.strength.specs.declared.BoltClause.{BoltClause}
 use Rattle.strength.specs.declared.BoltClause.TheVariants.{Shear, Tension, Combined, Bearing, Gross, Net}
 use Rattle.strength.specs.declared.WeldClause.{WeldClause}

@@ -6,7 +6,7 @@ use Rattle.parts.specs.declared.welds.Weld.{Weld}
 use Rattle.components.specs.declared.Plates.{Plates}
 use Rattle.components.specs.declared.Sizes.{Sizes}
 use Rattle.components.specs.Parts.{weaker_grade}
-use Rattle.strength.specs.declared.rules.Rules.{Rules}
+use Rattle.parts.specs.declared.annexes.Rules.{Rules}
 use Rattle.strength.specs.Bolts.{root_within}
 
 abbrev pub weld_ultimate : Rules → Plates → ℕ

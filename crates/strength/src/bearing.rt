@@ -1,11 +1,10 @@
 // Bearing of the bolts on a plate.
-ghost use Rattle.std.specs.Prelude.{◌≡◌, pos, int_le};
-ghost use Rattle.strength.specs.Bearing.{least_with_pitch, end_ratio, bearing_stress, full_edge_ratio, en_edge_ratio, edge_ratio, other_direction, bearing_weight, bearing_area, bearing_met};
+ghost use Rattle.std.specs.Prelude.{◌≡◌, ◌*◌, pos, ◌-ℤ◌, ◌*ℤ◌, int_le};
+ghost use Rattle.strength.specs.Bearing.{least_with_pitch, end_ratio, bearing_stress, full_edge_ratio, en_edge_ratio, edge_ratio, bearing_weight, bearing_area, bearing_met};
 
-use crate::products::{difference, product_i64, product_i128, product_u64};
-use crate::rules::Rules;
+use crate::bolts::LoadedBolts;
 use bolting::bolt_groups::{BoltLayout, Direction, Spacing};
-use components::Sizes;
+use parts::annexes::Rules;
 use parts::plates::Plate;
 use stock::makes::Make;
 
@@ -20,9 +19,8 @@ fn least_with_pitch(spacing: Spacing, term: i32, x: i32) -> i32
 fn end_ratio(spacing: Spacing, hole: u8) -> i32
     ensures { result ≡ end_ratio spacing hole }
 {
-    let hole = u32::from(hole);
-    let end = (4 * u32::from(spacing.end)).min(12 * hole);
-    let pitch = difference(4 * u32::from(spacing.pitch), 3 * hole);
+    let end = (4 * u32::from(spacing.end)).min(12 * u32::from(hole));
+    let pitch = 4 * i32::from(spacing.pitch) - 3 * i32::from(hole);
     least_with_pitch(spacing, pitch, end as i32)
 }
 
@@ -35,15 +33,6 @@ fn bearing_stress(spacing: Spacing, hole: u8, bolt_strength: u16, strength: u16)
     plate.min(i64::from(bolt))
 }
 
-fn other(direction: Direction) -> Direction
-    ensures { result ≡ other_direction direction }
-{
-    match direction {
-        Direction::Along => Direction::Across,
-        Direction::Across => Direction::Along,
-    }
-}
-
 // The greatest factor k1, 2.5, times 10·d0.
 fn full_edge_ratio(hole: u8) -> i32
     ensures { result ≡ full_edge_ratio hole }
@@ -51,51 +40,66 @@ fn full_edge_ratio(hole: u8) -> i32
     i32::from(25 * u16::from(hole))
 }
 
+// A quotient of the factor k1 under EN, weight·distance/(10·d0) − 1.7, times 10·d0.
+fn en_edge_term(weight: u8, distance: u16, hole: u8) -> i32
+    ensures { result ≡ pos (weight * distance) -ℤ pos (17 * hole) }
+{
+    let weighted = u32::from(weight) * u32::from(distance);
+    weighted as i32 - 17 * i32::from(hole)
+}
+
 // The factor k1 under EN, times 10·d0.
 fn en_edge_ratio(spacing: Spacing, hole: u8) -> i32
     ensures { result ≡ en_edge_ratio spacing hole }
 {
-    let reduction = 17 * u32::from(hole);
-    let end = difference(28 * u32::from(spacing.end), reduction);
-    let pitch = difference(14 * u32::from(spacing.pitch), reduction);
-    least_with_pitch(spacing, pitch, end.min(full_edge_ratio(hole)))
+    let end = en_edge_term(28, spacing.end, hole).min(full_edge_ratio(hole));
+    least_with_pitch(spacing, en_edge_term(14, spacing.pitch, hole), end)
 }
 
-impl Rules {
-    // The factor k1 times 10·d0.
-    fn edge_ratio(&self, spacing: Spacing, hole: u8) -> i32
-        ensures { result ≡ edge_ratio self.now.make spacing hole }
-    {
-        match self.make {
-            Make::En => en_edge_ratio(spacing, hole),
-            Make::SeA => full_edge_ratio(hole),
-        }
+// The factor k1 times 10·d0.
+fn edge_ratio(make: Make, spacing: Spacing, hole: u8) -> i32
+    ensures { result ≡ edge_ratio make spacing hole }
+{
+    match make {
+        Make::En => en_edge_ratio(spacing, hole),
+        Make::SeA => full_edge_ratio(hole),
     }
+}
 
+impl LoadedBolts<'_> {
     // Do the bolts bear on the plate in the direction of one of the forces?
-    pub(crate) fn bearing_met(
-        &self,
-        layout: &BoltLayout,
-        plate: Plate,
-        direction: Direction,
-        sizes: Sizes,
-    ) -> bool
-        ensures { result ≡ bearing_met self.now layout.now plate direction sizes }
+    pub(crate) fn bearing_met(&self, plate: Plate, direction: Direction) -> bool
+        ensures { result ≡ bearing_met self.now.rules self.now.layout.now plate direction self.now.forces.sizes }
     {
-        let hole = layout.size.hole();
-        let strength = plate.grade.ultimate_strength(self.make);
+        let Rules { make, factors } = self.rules;
+        let hole = self.layout.size.hole();
         let stress = bearing_stress(
-            layout.spacing(direction),
+            self.layout.spacing(direction),
             hole,
-            layout.class.ultimate_strength(),
-            strength,
+            self.layout.class.ultimate_strength(),
+            plate.grade.ultimate_strength(make),
         );
-        let edge = self.edge_ratio(layout.spacing(other(direction)), hole);
-        let resistance = product_i128(stress, product_i64(bearing_area(layout, plate), edge));
-        let weight = bearing_weight(self.factors.gamma_m2, hole);
-        let force = product_u64(weight, sizes.in_direction(direction));
+        let edge = edge_ratio(make, self.layout.spacing(direction.other()), hole);
+        let section = product_i64(bearing_area(self.layout, plate), edge);
+        let resistance = product_i128(stress, section);
+        let weight = u64::from(bearing_weight(factors.gamma_m2, hole));
+        let force = weight * u64::from(self.forces.sizes.in_direction(direction));
         within(force, resistance)
     }
+}
+
+// Products that are wider than their factors, so that none can overflow.
+// No trait, since it would say the fact and the body of each of the two widths again.
+fn product_i64(a: u32, b: i32) -> i64
+    ensures { result ≡ pos a *ℤ b }
+{
+    i64::from(a) * i64::from(b)
+}
+
+fn product_i128(a: i64, b: i64) -> i128
+    ensures { result ≡ a *ℤ b }
+{
+    i128::from(a) * i128::from(b)
 }
 
 // The weight 120·γM2·d0² of a force.

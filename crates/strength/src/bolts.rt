@@ -1,12 +1,21 @@
 // Shear and tension of the bolts.
-ghost use Rattle.std.specs.Prelude.{◌≡◌, true};
-ghost use Rattle.strength.specs.Bolts.{bolt_force, shear_square, shear_met, tension_met, combined_met};
-ghost use Rattle.strength.specs.Strength.{in_range};
+ghost use Rattle.std.specs.Prelude.{◌≡◌};
+ghost use Rattle.strength.specs.Bolts.{bolt_force, shear_met, tension_met, combined_met};
 
-use crate::products::{product_u64, root_within};
-use crate::rules::Rules;
+use crate::forces::Forces;
+use crate::roots::root_within;
 use bolting::bolt_groups::BoltLayout;
-use components::Sizes;
+use components::Plates;
+use parts::annexes::Rules;
+
+// The bolts that join two plates, under forces.
+#[derive(Clone, Copy)]
+pub(crate) struct LoadedBolts<'a> {
+    pub(crate) rules: Rules,
+    pub(crate) layout: &'a BoltLayout,
+    pub(crate) plates: &'a Plates,
+    pub(crate) forces: Forces,
+}
 
 // The ultimate tensile force of a bolt, in N.
 fn bolt_force(layout: &BoltLayout) -> u32
@@ -15,44 +24,38 @@ fn bolt_force(layout: &BoltLayout) -> u32
     u32::from(layout.class.ultimate_strength()) * u32::from(layout.size.stress_area())
 }
 
-// The square of the resultant of forces 1 and 2.
-fn shear_square(sizes: Sizes) -> u64
-    requires { in_range sizes ≡ true }
-    ensures { result ≡ shear_square sizes }
-{
-    product_u64(sizes.s1, sizes.s1) + product_u64(sizes.s2, sizes.s2)
-}
-
-impl Rules {
-    pub(crate) fn shear_met(&self, layout: &BoltLayout, sizes: Sizes) -> bool
-        requires { in_range sizes ≡ true }
-        ensures { result ≡ shear_met self.now layout.now sizes }
+impl LoadedBolts<'_> {
+    pub(crate) fn shear_met(&self) -> bool
+        ensures { result ≡ shear_met self.now.rules self.now.layout.now self.now.forces.sizes }
     {
-        let weight = 10 * u32::from(self.factors.gamma_m2);
-        let factor = u32::from(layout.class.shear_factor(self.make));
-        let limit = product_u64(u32::from(layout.count()) * factor, bolt_force(layout));
-        root_within(weight, shear_square(sizes), limit)
+        let weight = 10 * u32::from(self.rules.factors.gamma_m2);
+        let factor = u32::from(self.layout.class.shear_factor(self.rules.make));
+        let weighted_count = u32::from(self.layout.count()) * factor;
+        let limit = u64::from(weighted_count) * u64::from(bolt_force(self.layout));
+        root_within(weight, self.forces.shear_square(), limit)
     }
 
-    pub(crate) fn tension_met(&self, layout: &BoltLayout, sizes: Sizes) -> bool
-        ensures { result ≡ tension_met self.now layout.now sizes }
+    pub(crate) fn tension_met(&self) -> bool
+        ensures { result ≡ tension_met self.now.rules self.now.layout.now self.now.forces.sizes }
     {
-        let pull = product_u64(10 * u32::from(self.factors.gamma_m2), sizes.s3);
-        pull <= product_u64(9 * u32::from(layout.count()), bolt_force(layout))
+        let weight = 10 * u64::from(self.rules.factors.gamma_m2);
+        let limit = 9 * u64::from(self.layout.count()) * u64::from(bolt_force(self.layout));
+        weight * u64::from(self.forces.sizes.s3) <= limit
     }
 
     // Shear and tension together.
-    pub(crate) fn combined_met(&self, layout: &BoltLayout, sizes: Sizes) -> bool
-        requires { in_range sizes ≡ true }
-        ensures { result ≡ combined_met self.now layout.now sizes }
+    pub(crate) fn combined_met(&self) -> bool
+        ensures { result ≡ combined_met self.now.rules self.now.layout.now self.now.forces.sizes }
     {
-        let gamma_m2 = u32::from(self.factors.gamma_m2);
-        let factor = u32::from(layout.class.shear_factor(self.make));
-        let limit = product_u64(63 * factor * u32::from(layout.count()), bolt_force(layout));
-        let share = product_u64(50 * gamma_m2 * factor, sizes.s3);
-        match limit.checked_sub(share) {
-            Some(rest) => root_within(630 * gamma_m2, shear_square(sizes), rest),
-            None => false,
-        }
+        let gamma_m2 = u32::from(self.rules.factors.gamma_m2);
+        let factor = u32::from(self.layout.class.shear_factor(self.rules.make));
+        let weighted_count = 63 * factor * u32::from(self.layout.count());
+        let limit = u64::from(weighted_count) * u64::from(bolt_force(self.layout));
+        let share = u64::from(50 * gamma_m2 * factor) * u64::from(self.forces.sizes.s3);
+        let weight = 630 * gamma_m2;
+        let square = self.forces.shear_square();
+        limit
+            .checked_sub(share)
+            .is_some_and(|rest| root_within(weight, square, rest))
     }
 }

@@ -1,24 +1,26 @@
 // The strength clauses of the standards, each an exact comparison of whole numbers.
 #![tactic(auto)]
 
-ghost use Rattle.std.specs.Prelude.{◌≡◌, true};
-ghost use Rattle.strength.specs.Strength.{bolt_clause_numbered, weld_clause_numbered, in_range, bolts_hold, welds_hold, strength_met};
+ghost use Rattle.std.specs.Prelude.{◌≡◌};
+ghost use Rattle.strength.specs.Strength.{bolt_clause_numbered, weld_clause_numbered, bolts_hold, welds_hold, strength_met};
 
-use crate::rules::Rules;
-use bolting::bolt_groups::{BoltLayout, Direction};
-use components::{Component, Plates, Side, Sizes};
-use parts::welds::Weld;
+use crate::bolts::LoadedBolts;
+use crate::forces::Forces;
+use crate::welds::LoadedWelds;
+use bolting::bolt_groups::Direction;
+use components::{Component, Side, Sizes};
+use parts::annexes::Rules;
 use stock::makes::Make;
 
 mod bearing;
 mod bolts;
-mod products;
-pub mod rules;
+mod forces;
+mod roots;
 mod sections;
 mod welds;
 
 // What a strength clause judges of a bolt group.
-#[derive(Clone, Copy)]
+#[derive(Clone, Copy, Debug, PartialEq, Eq)]
 pub enum BoltClause {
     Shear,
     Tension,
@@ -31,6 +33,7 @@ pub enum BoltClause {
 }
 
 impl BoltClause {
+    // No TryFrom, since a number without a clause is no error: what the rules lack is met.
     fn numbered(number: u8) -> Option<BoltClause>
         ensures { result ≡ bolt_clause_numbered number }
     {
@@ -52,13 +55,14 @@ impl BoltClause {
 }
 
 // What a strength clause judges of a pair of welds.
-#[derive(Clone, Copy)]
+#[derive(Clone, Copy, Debug, PartialEq, Eq)]
 pub enum WeldClause {
     CombinedStress,
     NormalStress,
 }
 
 impl WeldClause {
+    // No TryFrom, since the clause is that of a make and a number.
     fn numbered(make: Make, number: u8) -> Option<WeldClause>
         ensures { result ≡ weld_clause_numbered make number }
     {
@@ -70,62 +74,66 @@ impl WeldClause {
     }
 }
 
-// The rules cover forces of up to 2,000 kN.
-fn in_range(sizes: Sizes) -> bool
-    ensures { result ≡ in_range sizes }
-{
-    sizes.s1 <= 20_000 && sizes.s2 <= 20_000 && sizes.s3 <= 20_000
+impl LoadedBolts<'_> {
+    fn hold(&self, clause: BoltClause) -> bool
+        ensures { result ≡ bolts_hold self.now.rules self.now.layout.now self.now.plates.now self.now.forces.sizes clause }
+    {
+        match clause {
+            BoltClause::Shear => self.shear_met(),
+            BoltClause::Tension => self.tension_met(),
+            BoltClause::Combined => self.combined_met(),
+            BoltClause::Bearing(direction, side) => self.bearing_met(
+                self.plates.on(side),
+                direction,
+            ),
+            BoltClause::Gross(side) => self.gross_met(self.plates.on(side)),
+            BoltClause::Net(side) => self.net_met(self.plates.on(side)),
+        }
+    }
 }
 
-impl Rules {
-    // Does the component meet the strength clause of that number under forces of these sizes? A clause
-    // that the rules do not have for it is met.
-    pub fn strength_met(&self, component: &Component, clause: u8, sizes: Sizes) -> bool
-        ensures { result ≡ strength_met self.now component.now clause sizes }
-    {
-        match component {
-            Component::Bolted(group, plates) => match BoltClause::numbered(clause) {
-                Some(clause) => {
-                    in_range(sizes) && self.bolts_hold(&group.layout, plates, sizes, clause)
-                }
-                None => true,
-            },
-            Component::Welded(weld, plates) => match WeldClause::numbered(self.make, clause) {
-                Some(clause) => in_range(sizes) && self.welds_hold(*weld, plates, sizes, clause),
-                None => true,
-            },
-        }
-    }
-
-    fn bolts_hold(
-        &self,
-        layout: &BoltLayout,
-        plates: &Plates,
-        sizes: Sizes,
-        clause: BoltClause,
-    ) -> bool
-        requires { in_range sizes ≡ true }
-        ensures { result ≡ bolts_hold self.now layout.now plates.now sizes clause }
+impl LoadedWelds<'_> {
+    fn hold(&self, clause: WeldClause) -> bool
+        ensures { result ≡ welds_hold self.now.rules self.now.weld self.now.plates.now self.now.forces.sizes clause }
     {
         match clause {
-            BoltClause::Shear => self.shear_met(layout, sizes),
-            BoltClause::Tension => self.tension_met(layout, sizes),
-            BoltClause::Combined => self.combined_met(layout, sizes),
-            BoltClause::Bearing(direction, side) => {
-                self.bearing_met(layout, plates.on(side), direction, sizes)
-            }
-            BoltClause::Gross(side) => self.gross_met(layout, plates.on(side), sizes),
-            BoltClause::Net(side) => self.net_met(layout, plates.on(side), sizes),
+            WeldClause::CombinedStress => self.combined_stress_met(),
+            WeldClause::NormalStress => self.normal_stress_met(),
         }
     }
+}
 
-    fn welds_hold(&self, weld: Weld, plates: &Plates, sizes: Sizes, clause: WeldClause) -> bool
-        requires { in_range sizes ≡ true }
-        ensures { result ≡ welds_hold self.now weld plates.now sizes clause }
-    {
-        match clause {
-            WeldClause::CombinedStress => self.combined_stress_met(weld, plates, sizes),
-            WeldClause::NormalStress => self.normal_stress_met(weld, plates, sizes),
+// Does the component meet the strength clause of that number under forces of these sizes? A clause
+// that the rules do not have for it is met.
+pub fn strength_met(rules: Rules, component: &Component, clause: u8, sizes: Sizes) -> bool
+    ensures { result ≡ strength_met rules component.now clause sizes }
+{
+    match component {
+        Component::Bolted(group, plates) => {
+            let layout = &group.layout;
+            BoltClause::numbered(clause).is_none_or(|clause| {
+                Forces::new(sizes)
+                    .map(|forces| LoadedBolts {
+                        rules,
+                        layout,
+                        plates,
+                        forces,
+                    })
+                    .is_some_and(|bolts| bolts.hold(clause))
+            })
+        }
+        Component::Welded(weld, plates) => {
+            let weld = *weld;
+            WeldClause::numbered(rules.make, clause).is_none_or(|clause| {
+                Forces::new(sizes)
+                    .map(|forces| LoadedWelds {
+                        rules,
+                        weld,
+                        plates,
+                        forces,
+                    })
+                    .is_some_and(|welds| welds.hold(clause))
+            })
         }
     }
 }

@@ -2,10 +2,9 @@
 ghost use Rattle.std.specs.Prelude.{◌≡◌};
 ghost use Rattle.strength.specs.Sections.{gross_met, holes_width, net_met};
 
-use crate::products::product_u64;
-use crate::rules::Rules;
+use crate::bolts::LoadedBolts;
 use bolting::bolt_groups::BoltLayout;
-use components::Sizes;
+use parts::annexes::Rules;
 use parts::plates::Plate;
 
 // The width of the holes of a row, in mm.
@@ -15,27 +14,28 @@ fn holes_width(layout: &BoltLayout) -> u32
     u32::from(layout.columns) * u32::from(layout.size.hole())
 }
 
-impl Rules {
-    pub(crate) fn gross_met(&self, layout: &BoltLayout, plate: Plate, sizes: Sizes) -> bool
-        ensures { result ≡ gross_met self.now layout.now plate sizes }
+impl LoadedBolts<'_> {
+    pub(crate) fn gross_met(&self, plate: Plate) -> bool
+        ensures { result ≡ gross_met self.now.rules self.now.layout.now plate self.now.forces.sizes }
     {
+        let Rules { make, factors } = self.rules;
+        let gamma_m0 = u32::from(factors.gamma_m0);
+        let force = u64::from(gamma_m0) * u64::from(self.forces.sizes.s1);
         let yield_strength = plate
             .grade
-            .yield_strength_by_thickness(self.make, plate.thickness);
-        let strength = u32::from(plate.thickness) * u32::from(yield_strength);
-        product_u64(u32::from(self.factors.gamma_m0), sizes.s1)
-            <= product_u64(layout.width(), strength)
+            .yield_strength_by_thickness(make, plate.thickness);
+        let strength = u64::from(plate.thickness) * u64::from(yield_strength);
+        force <= u64::from(self.layout.width()) * strength
     }
 
-    pub(crate) fn net_met(&self, layout: &BoltLayout, plate: Plate, sizes: Sizes) -> bool
-        ensures { result ≡ net_met self.now layout.now plate sizes }
+    pub(crate) fn net_met(&self, plate: Plate) -> bool
+        ensures { result ≡ net_met self.now.rules self.now.layout.now plate self.now.forces.sizes }
     {
-        let force = product_u64(10 * u32::from(self.factors.gamma_m2), sizes.s1);
-        let ultimate = u32::from(plate.grade.ultimate_strength(self.make));
+        let weight = 10 * u64::from(self.rules.factors.gamma_m2);
+        let force = weight * u64::from(self.forces.sizes.s1);
+        let ultimate = u32::from(plate.grade.ultimate_strength(self.rules.make));
         let strength = 9 * u32::from(plate.thickness) * ultimate;
-        match layout.width().checked_sub(holes_width(layout)) {
-            Some(net_width) => force <= product_u64(net_width, strength),
-            None => false,
-        }
+        let net_width = self.layout.width().checked_sub(holes_width(self.layout));
+        net_width.is_some_and(|width| force <= u64::from(width) * u64::from(strength))
     }
 }

@@ -1,58 +1,57 @@
 // A pair of fillet welds.
-ghost use Rattle.std.specs.Prelude.{◌≡◌, true};
-ghost use Rattle.strength.specs.Strength.{in_range};
-ghost use Rattle.strength.specs.Welds.{weld_ultimate, weld_factor, stress_square, combined_stress_met, normal_stress_met};
+ghost use Rattle.std.specs.Prelude.{◌≡◌};
+ghost use Rattle.strength.specs.Welds.{weld_ultimate, weld_factor, combined_stress_met, normal_stress_met};
 
-use crate::products::{product_u64, product_u128, root_within};
-use crate::rules::Rules;
+use crate::forces::Forces;
+use crate::roots::root_within;
 use components::{Plates, Sizes};
+use parts::annexes::Rules;
 use parts::welds::Weld;
 
-// The square of the comparison stress in the bead that has more of it, times the square of both throat
-// areas together.
-fn stress_square(sizes: Sizes) -> u64
-    requires { in_range sizes ≡ true }
-    ensures { result ≡ stress_square sizes }
-{
-    let first = product_u64(sizes.s1, sizes.s1);
-    let second = product_u64(sizes.s2, sizes.s2);
-    let mixed = product_u64(sizes.s1, sizes.s2);
-    let third = product_u64(sizes.s3, sizes.s3);
-    2 * (first + second + mixed) + 3 * third
+// The welds that join two plates, under forces.
+#[derive(Clone, Copy)]
+pub(crate) struct LoadedWelds<'a> {
+    pub(crate) rules: Rules,
+    pub(crate) weld: Weld,
+    pub(crate) plates: &'a Plates,
+    pub(crate) forces: Forces,
 }
 
-impl Rules {
-    fn weld_ultimate(&self, plates: &Plates) -> u16
-        ensures { result ≡ weld_ultimate self.now plates.now }
+impl LoadedWelds<'_> {
+    fn ultimate(&self) -> u16
+        ensures { result ≡ weld_ultimate self.now.rules self.now.plates.now }
     {
-        plates.weaker_grade(self.make).ultimate_strength(self.make)
+        let grade = self.plates.weaker_grade(self.rules.make);
+        grade.ultimate_strength(self.rules.make)
     }
 
-    fn weld_factor(&self, plates: &Plates) -> u8
-        ensures { result ≡ weld_factor self.now plates.now }
+    fn factor(&self) -> u8
+        ensures { result ≡ weld_factor self.now.rules self.now.plates.now }
     {
-        plates.weaker_grade(self.make).correlation_factor()
+        let grade = self.plates.weaker_grade(self.rules.make);
+        grade.correlation_factor()
     }
 
-    pub(crate) fn combined_stress_met(&self, weld: Weld, plates: &Plates, sizes: Sizes) -> bool
-        requires { in_range sizes ≡ true }
-        ensures { result ≡ combined_stress_met self.now weld plates.now sizes }
+    pub(crate) fn combined_stress_met(&self) -> bool
+        ensures { result ≡ combined_stress_met self.now.rules self.now.weld self.now.plates.now self.now.forces.sizes }
     {
-        let weight = u32::from(self.weld_factor(plates)) * u32::from(self.factors.gamma_m2);
-        let strength = u32::from(weld.length) * u32::from(self.weld_ultimate(plates));
-        let limit = product_u64(20 * u32::from(weld.throat), strength);
-        root_within(weight, stress_square(sizes), limit)
+        let Weld { throat, length, .. } = self.weld;
+        let gamma_m2 = u32::from(self.rules.factors.gamma_m2);
+        let weight = u32::from(self.factor()) * gamma_m2;
+        let strength = u64::from(length) * u64::from(self.ultimate());
+        let limit = 20 * u64::from(throat) * strength;
+        root_within(weight, self.forces.stress_square(), limit)
     }
 
-    pub(crate) fn normal_stress_met(&self, weld: Weld, plates: &Plates, sizes: Sizes) -> bool
-        requires { in_range sizes ≡ true }
-        ensures { result ≡ normal_stress_met self.now weld plates.now sizes }
+    pub(crate) fn normal_stress_met(&self) -> bool
+        ensures { result ≡ normal_stress_met self.now.rules self.now.weld self.now.plates.now self.now.forces.sizes }
     {
-        let weight = 50 * u32::from(self.factors.gamma_m2);
-        let sum = sizes.s1 + sizes.s2;
-        let strength = u32::from(weld.length) * u32::from(self.weld_ultimate(plates));
-        let root = product_u64(9 * u32::from(weld.throat), strength);
-        product_u128(product_u64(weight, weight), product_u64(sum, sum))
-            <= 2 * product_u128(root, root)
+        let Weld { throat, length, .. } = self.weld;
+        let Sizes { s1, s2, .. } = self.forces.sizes;
+        let weight = 50 * u64::from(self.rules.factors.gamma_m2);
+        let sum = u64::from(s1 + s2);
+        let strength = u64::from(length) * u64::from(self.ultimate());
+        let root = u128::from(9 * u64::from(throat) * strength);
+        u128::from(weight * weight) * u128::from(sum * sum) <= 2 * (root * root)
     }
 }
