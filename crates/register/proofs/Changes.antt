@@ -1,27 +1,15 @@
 -- What a record added last and a record taken out mean for looking up by number.
 use Rattle.std.proofs.Common.{◌≡◌, ℕ, ◌+◌, true, false, cond, eqb, List, [], ◌∷◌, ◌++◌, length, is_some, Some, None, sym, refl, ap, ◌∙◌, inl, inr, arith}
 use Rattle.std.proofs.lemmas.Bool.{cases_Bool, eqb-true, eqb-false, eq-eqb, ne_eqb, and_parts, not-true}
+use Rattle.std.specs.Option.{option_or}
+use Rattle.std.proofs.lemmas.List.Folds.{find-append}
 use Rattle.register.specs.Held.{record_of, without, unrepeated}
 use Rattle.register.specs.Laws.{OthersAsBefore, Added, StaysUnrepeated, Struck}
 use Rattle.register.proofs.Search.{not_both, none_from_test}
 
 module _ {R : Type 0} (f : R → ℕ) where
-  -- a number that the front of a list finds, and one that it does not
-  pub record_front : (k : ℕ) (xs ys : List R) (y : R) → record_of f k xs ≡ Some y → record_of f k (xs ++ ys) ≡ Some y
-  record_front k [] ys y = λ e. not_both refl e
-  record_front k (x ∷ xs) ys y =
-      elim (eqb (f x) k) as (λ v. cond v (Some x) (record_of f k xs) ≡ Some y → cond v (Some x) (record_of f k (xs ++ ys)) ≡ Some y) [
-        | true ↦ λ e. e
-        | false ↦ λ e. record_front k xs ys y e
-      ]
-
-  pub record_back : (k : ℕ) (xs ys : List R) → record_of f k xs ≡ None → record_of f k (xs ++ ys) ≡ record_of f k ys
-  record_back k [] ys = λ e. refl
-  record_back k (x ∷ xs) ys =
-      elim (eqb (f x) k) as (λ v. cond v (Some x) (record_of f k xs) ≡ None → cond v (Some x) (record_of f k (xs ++ ys)) ≡ record_of f k ys) [
-        | true ↦ λ e. not_both e refl
-        | false ↦ λ e. record_back k xs ys e
-      ]
+  record_back : (k : ℕ) (xs ys : List R) → record_of f k xs ≡ None → record_of f k (xs ++ ys) ≡ record_of f k ys
+  record_back k xs ys e = find-append (λ x. eqb (f x) k) xs ys ∙ ap (λ o. option_or o (record_of f k ys)) e
 
   pub record_added : (x : R) (xs : List R) → record_of f (f x) xs ≡ None → record_of f (f x) (xs ++ (x ∷ [])) ≡ Some x
   record_added x xs e = record_back (f x) xs (x ∷ []) e ∙ rw (eq-eqb (f x) (f x) refl)

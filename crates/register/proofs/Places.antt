@@ -1,44 +1,19 @@
 -- The places after a record is added or struck.
-use Rattle.std.proofs.Common.{◌≡◌, ℕ, suc, ◌+◌, ◌-◌, ◌<◌, ◌≤◌, min, List, [], ◌∷◌, ◌++◌, length, get_or, take, drop, set, Some, sym, ap, ◌∙◌, subst, inl, inr, arith, length-append, length-drop, length-take, length-take-le, get_or-drop, take_all, take-take, take_at}
-use lib.Seq.{paste, drop-paste}
-use Rattle.std.specs.List.{remove}
-use Rattle.std.proofs.lemmas.List.Edits.{paste_more, paste_none, length-remove}
+use Rattle.std.proofs.Common.{◌≡◌, ℕ, suc, ◌+◌, ◌-◌, ◌<◌, ◌≤◌, min, List, [], ◌∷◌, ◌++◌, length, take, drop, set, is_some, Some, sym, ap, ◌∙◌, subst, inl, inr, arith, length-append, length-drop, length-take, length-take-le, take_all, take-take, take_at}
+use Rattle.std.specs.List.{remove, copy_within}
+use Rattle.std.proofs.lemmas.List.Edits.{length-remove}
 use Rattle.std.proofs.lemmas.List.{take_more_set}
 use Rattle.std.proofs.lemmas.Slice.{between_is}
 use Rattle.std.proofs.lemmas.Bool.{cases_lt}
 use Rattle.register.specs.Held.{held, place_of, without, struck, count_struck, places_struck}
 use Rattle.register.specs.Laws.{Added, StaysUnrepeated, Struck}
-use Rattle.register.proofs.Search.{cases_option, record_none, place_within, place_known, removed_without}
+use Rattle.register.proofs.Search.{cases_option, none_from_test, place_within, place_known, removed_without}
 use Rattle.register.proofs.Changes.{without_unknown, added_last, unrepeated_added, struck_without}
 
--- a loop that moves records down: the places once those from at + 1 to i are moved
+-- the records behind `at` moved down by one
 module _ {R : Type 0} (xs : List R) (at : ℕ) where
-  abbrev pub moved : ℕ → List R
-  moved i = paste xs at (drop (at + 1) xs) (i - (at + 1))
-
-  pub moved_none : xs ≡ moved (at + 1)
-  moved_none = let z : (at + 1) - (at + 1) ≡ 0 = omega arith in rw z (paste_none xs at (drop (at + 1) xs))
-
-  not_yet : (j : ℕ) (d : R) → at + j + 1 < length xs → get_or (paste xs at (drop (at + 1) xs) j) (at + j + 1) d ≡ get_or xs (at + j + 1) d
-  not_yet j d lt =
-      let le : j ≤ length (drop (at + 1) xs) = simp length-drop (omega arith) in
-      let same = drop-paste xs at (drop (at + 1) xs) j (omega arith) le in
-      sym (get_or-drop (at + j) (paste xs at (drop (at + 1) xs) j) 1 d) ∙ ap (λ l. get_or l 1 d) same ∙ get_or-drop (at + j) xs 1 d
-
-  pub moved_more : (i : ℕ) (ps : List R) (x : R) → at + 1 ≤ i → i < length xs → ps ≡ moved i → x ≡ get_or ps i x → set ps (i - 1) x ≡ moved (i + 1)
-  moved_more i ps x ge lt is read =
-      let j : ℕ = i - (at + 1) in
-      let down : i - 1 ≡ at + j = omega arith in
-      let here : i ≡ at + j + 1 = omega arith in
-      let more : (i + 1) - (at + 1) ≡ j + 1 = omega arith in
-      let le : j < length (drop (at + 1) xs) = simp length-drop (omega arith) in
-      let source : get_or (drop (at + 1) xs) j x ≡ x =
-      get_or-drop (at + 1) xs j x ∙ ap (λ k. get_or xs k x) (omega arith) ∙ sym (not_yet j x (omega arith)) ∙ sym (ap (λ k. get_or (moved i) k x) here) ∙ sym (ap (λ l. get_or l i x) is) ∙ sym read in
-      ap (λ l. set l (i - 1) x) is ∙ ap (λ k. set (moved i) k x) down ∙ sym (ap (λ y. set (moved i) (at + j) y) source)
-      ∙ paste_more xs at (drop (at + 1) xs) j x (omega arith) le ∙ sym (ap (λ k. paste xs at (drop (at + 1) xs) k) more)
-
-  pub moved_all : (n : ℕ) → at < n → moved n ≡ struck at n xs
-  moved_all n lt =
+  pub gap_closed : (n : ℕ) → at < n → copy_within xs (at + 1) n at ≡ struck at n xs
+  gap_closed n lt =
       let front : take at (take n xs) ≡ take at xs = take-take at n xs (omega arith) in
       let middle : drop (suc at) (take n xs) ≡ take (n - (at + 1)) (drop (at + 1) xs) =
       (let s : suc at ≡ at + 1 = omega arith in ap (λ k. drop k (take n xs)) s ∙ sym (between_is xs (at + 1) n)) in
@@ -87,7 +62,7 @@ module _ {R : Type 0} (n : ℕ) (xs : List R) where
     pub held_struck : held (count_struck f k n xs) (places_struck f k n xs) ≡ without f k (held n xs)
     held_struck =
         elim (cases_option (place_of f k (held n xs))) [
-          | inl e ↦ rw (← place_known f k (held n xs), e) (sym (without_unknown f k (held n xs) (sym (record_none f k (held n xs) e))))
+          | inl e ↦ rw (← place_known f k (held n xs), e) (sym (without_unknown f k (held n xs) (none_from_test _ (sym (place_known f k (held n xs)) ∙ ap is_some e))))
           | inr s ↦ rw (← place_known f k (held n xs), s.1) (held_found s.0 s.1)
         ]
 

@@ -1,17 +1,12 @@
 -- What a register holds in the places lent to it, and what each call makes of them.
 -- `f` tells a record's number, `n` is how many places are in use, `xs` is what the places contain.
-use Rattle.std.specs.Prelude.{ℕ, suc, ◌+◌, ◌-◌, Bool, true, cond, not, ◌&&◌, List, [], ◌∷◌, ◌++◌, length, take, drop, is_some, Some, None, Ok, Err, Option, Result, ◌==◌, nat_lt, slice_set}
+use Rattle.std.specs.Prelude.{ℕ, ◌+◌, ◌-◌, Bool, true, cond, not, ◌&&◌, List, [], ◌∷◌, ◌++◌, length, take, drop, is_some, Some, None, Ok, Err, Option, Result, ◌==◌, nat_lt, slice_set, find, position}
 use Rattle.std.specs.List.{remove}
 use Rattle.register.specs.declared.Full.{Full}
 
 -- the one refusal
 abbrev pub all_taken : Full
 all_taken = record {}
-
--- the same place, seen from one place further ahead
-abbrev pub one_on : Option ℕ → Option ℕ
-one_on None = None
-one_on (Some i) = Some (suc i)
 
 module _ {R : Type 0} where
   -- the records in use: those in the first n places, or all where there are fewer places
@@ -20,13 +15,11 @@ module _ {R : Type 0} where
 
   -- the place of the first record with the number
   abbrev pub place_of : (R → ℕ) → ℕ → List R → Option ℕ
-  place_of f k [] = None
-  place_of f k (x ∷ xs) = cond (f x == k) (Some 0) (one_on (place_of f k xs))
+  place_of f k xs = position (λ x. f x == k) xs
 
   -- the first record with the number
   abbrev pub record_of : (R → ℕ) → ℕ → List R → Option R
-  record_of f k [] = None
-  record_of f k (x ∷ xs) = cond (f x == k) (Some x) (record_of f k xs)
+  record_of f k xs = find (λ x. f x == k) xs
 
   -- the records without the first that has the number
   abbrev pub without : (R → ℕ) → ℕ → List R → List R

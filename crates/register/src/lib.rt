@@ -14,11 +14,12 @@ pub trait Numbered: Copy {
 }
 
 // Why an add was refused: every place is taken.
-#[derive(Clone, Copy)]
+#[derive(Clone, Copy, Debug, PartialEq, Eq)]
 pub struct Full;
 
-// How many of the places are in use: the first ones.
-#[derive(Clone, Copy)]
+// How many of the places are in use: the first ones. A count alone, since there is no heap: whoever
+// has the places lends them, and the same calls serve the records of any kind.
+#[derive(Clone, Copy, Debug, PartialEq, Eq)]
 pub struct Register {
     count: usize,
 }
@@ -40,7 +41,11 @@ impl Register {
     pub fn find<R: Numbered>(&self, places: &[R], number: u16) -> Option<R>
         ensures { result ≡ record_of R.numbered number (held self.now.count places.now) }
     {
-        record_of(self.in_use(places), number)
+        let records = self.in_use(places);
+        records
+            .iter()
+            .copied()
+            .find(|record| record.number() == number)
     }
 
     // Takes the record into the first free place.
@@ -62,22 +67,30 @@ impl Register {
     }
 
     // Takes the record with the number out; says whether there was one.
+    #[tactic(auto, using(crate::proofs::Search::place_known))]
     pub fn strike<R: Numbered>(&mut self, places: &mut [R], number: u16) -> bool
         ensures answer { result ≡ is_some (record_of R.numbered number (held self.old.count places.old)) }
         ensures count { self.new.count ≡ count_struck R.numbered number self.old.count places.old }
         ensures places { places.new ≡ places_struck R.numbered number self.old.count places.old }
         ensures found { StruckOrKept R.numbered number result self.old.count places.old self.new.count places.new }
     {
-        let records = self.in_use(places);
-        let used = records.len();
-        match place_of(records, number) {
-            Some(at) => {
-                close_gap(places, at, used);
-                self.count = used - 1;
-                true
-            }
-            None => false,
-        }
+        let Some(at) = self.place(places, number) else {
+            return false;
+        };
+        let used = self.in_use(places).len();
+        close_gap(places, at, used);
+        self.count = used - 1;
+        true
+    }
+
+    // The place of the first record with the number.
+    fn place<R: Numbered>(&self, places: &[R], number: u16) -> Option<usize>
+        ensures place { result ≡ place_of R.numbered number (held self.now.count places.now) }
+        ensures within { IfSome result (λ at. at < length (held self.now.count places.now)) }
+    {
+        self.in_use(places)
+            .iter()
+            .position(|record| record.number() == number)
     }
 
     // The records in use; a count past the last place means all of them.
@@ -86,7 +99,7 @@ impl Register {
         ensures within { length result.now ≤ length places.now }
     {
         let used = self.count.min(places.len());
-        &places[0..used]
+        &places[..used]
     }
 }
 
@@ -102,33 +115,10 @@ fn put<R: Numbered>(places: &mut [R], at: usize, item: R)
 
 // Moves what stands behind `at` down one place, up to `end`.
 fn close_gap<R: Numbered>(places: &mut [R], at: usize, end: usize)
-    requires { (at < end) × (end ≤ length places.old) }
+    requires before_end { at < end }
+    requires end_within { end ≤ length places.old }
     ensures places { places.new ≡ struck at end places.old }
     ensures found { (n k : ℕ) → end ≡ length (held n places.old) → place_of R.numbered k (held n places.old) ≡ Some at → Struck R.numbered k (held n places.old) (held (end - 1) places.new) }
 {
-    for i in at + 1..end {
-        places[i - 1] = places[i];
-    }
-}
-
-// The place of the first record with the number.
-fn place_of<R: Numbered>(records: &[R], number: u16) -> Option<usize>
-    ensures place { result ≡ place_of R.numbered number records.now }
-    ensures known { is_some result ≡ is_some (record_of R.numbered number records.now) }
-    ensures within { IfSome result (λ i. i < length records.now) }
-{
-    for (i, item) in records.iter().enumerate() {
-        if item.number() == number {
-            return Some(i);
-        }
-    }
-    None
-}
-
-// The first record with the number.
-fn record_of<R: Numbered>(records: &[R], number: u16) -> Option<R>
-    ensures { result ≡ record_of R.numbered number records.now }
-{
-    let at = place_of(records, number)?;
-    Some(records[at])
+    places.copy_within(at + 1..end, at);
 }
