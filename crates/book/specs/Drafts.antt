@@ -1,5 +1,5 @@
 -- The acts on a book that is drafted: what each answers, and what the book then holds.
-use Rattle.std.specs.Prelude.{ℕ, Bool, cond, not, ℤ, is_some, is_ok, Ok, Err, Result}
+use Rattle.std.specs.Prelude.{ℕ, Bool, cond, not, ℤ, is_some, is_ok, Ok, Err, Option, Result}
 use Rattle.register.specs.declared.Full.{Full as NoPlace}
 use Rattle.parts.specs.declared.limits.OutOfLimits.{OutOfLimits as LimitFault}
 use Rattle.parts.specs.declared.marks.ComponentMarks.{ComponentMarks}
@@ -12,13 +12,15 @@ use Rattle.parts.specs.declared.welds.WeldEntry.{WeldEntry}
 use Rattle.parts.specs.Limits.{mark_in, at_field}
 use Rattle.parts.specs.Entries.{plate_checked, weld_checked}
 use Rattle.bolting.specs.Groups.{group_checked, group_mark}
-use Rattle.parts.specs.Numbers.{weld_mark}
+use Rattle.parts.specs.Numbers.{plate_mark, weld_mark}
 use Rattle.book.specs.declared.tables.Tables.{Tables}
 use Rattle.book.specs.declared.refusals.Refusal.{Refusal}
 use Rattle.book.specs.declared.refusals.Refusal.TheVariants.{InUse, Unknown}
 use Rattle.book.specs.Refusals.{of_limits, of_full}
-use Rattle.book.specs.Tabled.{room_in, table_added, table_struck}
-use Rattle.book.specs.Tables.{with_plates, with_groups, with_welds, plate_named, group_named, mark_used}
+use Rattle.book.specs.declared.tables.Table.{Table}
+use Rattle.book.specs.Tabled.{records_in, room_in, table_added, table_struck}
+use Rattle.register.specs.Held.{record_of}
+use Rattle.book.specs.Tables.{plate_named, group_named, mark_used}
 
 abbrev pub Answer : Type 0
 Answer = Result (Unit {0}) Refusal
@@ -32,6 +34,11 @@ abbrev pub full_or : Result (Unit {0}) NoPlace → Answer
 full_or (Ok x) = Ok tt
 full_or (Err e) = Err (of_full e)
 
+-- the first refusal of the two
+abbrev pub and_then : Answer → Answer → Answer
+and_then (Ok x) behind = behind
+and_then (Err r) behind = Err r
+
 -- the mark is free, and both plates are known
 abbrev pub component_gates : Tables → ComponentMarks → Answer
 component_gates t c =
@@ -40,29 +47,53 @@ component_gates t c =
     (refuse_if (not (is_some (plate_named t c.plate_b))) (Unknown 3)
     (Ok tt)))
 
--- the first refusal of the two
-abbrev pub and_then : Answer → Answer → Answer
-and_then (Ok x) behind = behind
-and_then (Err r) behind = Err r
+-- A kind of records that a book takes: the mark that a record bears, the table that it stands in, the
+-- book with another such table, and what is asked of a record before it is asked for a free place.
+pub record Kind (X : Type 0) : Type 0 where
+  pub mark : X → ℕ
+  pub table : Tables → Table X 50
+  pub with_table : Table X 50 → Tables → Tables
+  pub fits : Tables → X → Answer
 
-abbrev pub plate_gates : Tables → Plate → Answer
-plate_gates t p = refuse_if (is_some (plate_named t p.mark)) InUse (full_or (room_in t.plates))
+abbrev pub plate_kind : Kind Plate
+plate_kind = record {
+  mark = plate_mark;
+  table = λ t. t.plates;
+  with_table = λ ps t. record t { plates = ps };
+  fits = λ t p. refuse_if (is_some (plate_named t p.mark)) InUse (Ok tt);
+}
 
-abbrev pub group_gates : Tables → BoltGroup → Answer
-group_gates t g = and_then (component_gates t g.marks) (full_or (room_in t.bolt_groups))
+abbrev pub group_kind : Kind BoltGroup
+group_kind = record {
+  mark = group_mark;
+  table = λ t. t.bolt_groups;
+  with_table = λ gs t. record t { bolt_groups = gs };
+  fits = λ t g. component_gates t g.marks;
+}
 
-abbrev pub weld_gates : Tables → Weld → Answer
-weld_gates t w = and_then (component_gates t w.marks) (full_or (room_in t.welds))
+abbrev pub weld_kind : Kind Weld
+weld_kind = record {
+  mark = weld_mark;
+  table = λ t. t.welds;
+  with_table = λ ws t. record t { welds = ws };
+  fits = λ t w. component_gates t w.marks;
+}
 
--- a record that no gate refuses is stored, last in its table; a refusal changes nothing
-abbrev pub plate_stored : Tables → Plate → Tables
-plate_stored t p = cond (is_ok (plate_gates t p)) (with_plates (table_added p t.plates) t) t
+module _ {X : Type 0} (k : Kind X) where
+  -- the record that a mark names
+  abbrev pub named : Tables → ℕ → Option X
+  named t n = record_of k.mark n (records_in (k.table t))
 
-abbrev pub group_stored : Tables → BoltGroup → Tables
-group_stored t g = cond (is_ok (group_gates t g)) (with_groups (table_added g t.bolt_groups) t) t
+  -- with one record more, last in its table
+  abbrev pub with_record : X → Tables → Tables
+  with_record x t = k.with_table (table_added x (k.table t)) t
 
-abbrev pub weld_stored : Tables → Weld → Tables
-weld_stored t w = cond (is_ok (weld_gates t w)) (with_welds (table_added w t.welds) t) t
+  abbrev pub gates : Tables → X → Answer
+  gates t x = and_then (k.fits t x) (full_or (room_in (k.table t)))
+
+  -- a record that no gate refuses is stored; a refusal changes nothing
+  abbrev pub stored : Tables → X → Tables
+  stored t x = cond (is_ok (gates t x)) (with_record x t) t
 
 -- striking: a component bears the mark, and leaves its table
 abbrev pub strike_gates : Tables → ℕ → Answer
@@ -70,7 +101,9 @@ strike_gates t m = refuse_if (not (mark_used t m)) (Unknown 1) (Ok tt)
 
 abbrev pub component_struck : Tables → ℕ → Tables
 component_struck t m =
-    cond (is_some (group_named t m)) (with_groups (table_struck group_mark m t.bolt_groups) t) (with_welds (table_struck weld_mark m t.welds) t)
+    cond (is_some (group_named t m))
+    (record t { bolt_groups = table_struck group_mark m t.bolt_groups })
+    (record t { welds = table_struck weld_mark m t.welds })
 
 module _ {X : Type 0} where
   -- an entry within its limits goes on to the other gates
@@ -84,22 +117,22 @@ module _ {X : Type 0} where
   entry_stored t store (Err o) = t
 
 abbrev pub plate_answer : Tables → PlateEntry → Answer
-plate_answer t e = entry_answer (plate_gates t) (plate_checked e)
+plate_answer t e = entry_answer (gates plate_kind t) (plate_checked e)
 
 abbrev pub plate_entered : Tables → PlateEntry → Tables
-plate_entered t e = entry_stored t (plate_stored t) (plate_checked e)
+plate_entered t e = entry_stored t (stored plate_kind t) (plate_checked e)
 
 abbrev pub group_answer : Tables → BoltGroupEntry → Answer
-group_answer t e = entry_answer (group_gates t) (group_checked e)
+group_answer t e = entry_answer (gates group_kind t) (group_checked e)
 
 abbrev pub group_entered : Tables → BoltGroupEntry → Tables
-group_entered t e = entry_stored t (group_stored t) (group_checked e)
+group_entered t e = entry_stored t (stored group_kind t) (group_checked e)
 
 abbrev pub weld_answer : Tables → WeldEntry → Answer
-weld_answer t e = entry_answer (weld_gates t) (weld_checked e)
+weld_answer t e = entry_answer (gates weld_kind t) (weld_checked e)
 
 abbrev pub weld_entered : Tables → WeldEntry → Tables
-weld_entered t e = entry_stored t (weld_stored t) (weld_checked e)
+weld_entered t e = entry_stored t (stored weld_kind t) (weld_checked e)
 
 -- a mark to strike has one field
 abbrev pub mark_checked : ℤ → Result ℕ LimitFault

@@ -1,11 +1,10 @@
 -- What the acts on a book mean for those who look plates and components up by their marks.
 -- `t` is what the book holds before an act, `u` what it holds afterwards.
-use Rattle.std.specs.Prelude.{◌≡◌, ℕ, ◌≤◌, true, false, List, [], ◌∷◌, length, ℤ, is_some, is_ok, Some, None, Err, Option, MatchResult, ◌≢◌}
-use Rattle.parts.specs.Numbers.{plate_mark, weld_mark}
-use Rattle.bolting.specs.Groups.{group_mark, group_checked}
+use Rattle.std.specs.Prelude.{◌≡◌, ℕ, ◌≤◌, true, false, List, [], ◌∷◌, length, ℤ, is_some, is_ok, Some, None, Err, Option, Result, MatchResult, ◌≢◌}
+use Rattle.parts.specs.declared.limits.OutOfLimits.{OutOfLimits as LimitFault}
+use Rattle.bolting.specs.Groups.{group_checked}
 use Rattle.parts.specs.Entries.{plate_checked, weld_checked}
 use Rattle.parts.specs.declared.marks.ComponentMarks.{ComponentMarks}
-use Rattle.parts.specs.declared.plates.Plate.{Plate}
 use Rattle.bolting.specs.declared.bolt_groups.BoltGroup.{BoltGroup}
 use Rattle.parts.specs.declared.welds.Weld.{Weld}
 use Rattle.parts.specs.declared.plates.PlateEntry.{PlateEntry}
@@ -18,7 +17,7 @@ use Rattle.book.specs.Tabled.{given_places}
 use Rattle.book.specs.Tables.{empty_tables, plate_named, group_named, weld_named, mark_used}
 use Rattle.book.specs.declared.tables.Places.{Places}
 use Rattle.book.specs.Order.{orderly}
-use Rattle.book.specs.Drafts.{Answer, mark_checked, plate_answer, plate_entered, group_answer, group_entered, weld_answer, weld_entered, strike_answer, struck_out}
+use Rattle.book.specs.Drafts.{Answer, Kind, plate_kind, group_kind, weld_kind, named, mark_checked, plate_answer, plate_entered, group_answer, group_entered, weld_answer, weld_entered, strike_answer, struck_out}
 
 -- both plates are in the book
 abbrev pub Joined : Tables → ComponentMarks → Type 0
@@ -43,24 +42,21 @@ module _ {R : Type 0} where
   abbrev pub FullWhenTaken : {N : ℕ} → Table R N → Answer → Type 0
   FullWhenTaken table r = r ≡ Err Full → length (given_places table) ≤ table.register.count
 
--- a record within its limits: it is taken and the other tables stay as they are, or it is refused and nothing changes
-abbrev pub PlateTaken : Plate → Answer → Tables → Tables → Type 0
-PlateTaken p r t u =
-    MatchResult r
-    (λ ok. NewlyNamed plate_mark p (plate_named t) (plate_named u) × (u.bolt_groups ≡ t.bolt_groups) × (u.welds ≡ t.welds) × (u.loads ≡ t.loads))
-    (λ refusal. u ≡ t)
+-- the same of an entry: outside its limits it is refused and changes nothing
+abbrev pub Refused : Answer → Tables → Tables → Type 0
+Refused r t u = (is_ok r ≡ false) × (u ≡ t)
 
-abbrev pub GroupTaken : BoltGroup → Answer → Tables → Tables → Type 0
-GroupTaken g r t u =
-    MatchResult r
-    (λ ok. NewlyNamed group_mark g (group_named t) (group_named u) × (u.plates ≡ t.plates) × (u.welds ≡ t.welds) × (u.loads ≡ t.loads))
-    (λ refusal. u ≡ t)
+module _ {X : Type 0} (k : Kind X) where
+  -- a record within its limits: it is taken and the tables of the other kinds stay as they are, or it is refused and nothing changes
+  abbrev pub Taken : X → Answer → Tables → Tables → Type 0
+  Taken x r t u =
+      MatchResult r
+      (λ ok. NewlyNamed k.mark x (named k t) (named k u) × (u ≡ k.with_table (k.table u) t))
+      (λ refusal. u ≡ t)
 
-abbrev pub WeldTaken : Weld → Answer → Tables → Tables → Type 0
-WeldTaken w r t u =
-    MatchResult r
-    (λ ok. NewlyNamed weld_mark w (weld_named t) (weld_named u) × (u.plates ≡ t.plates) × (u.bolt_groups ≡ t.bolt_groups) × (u.loads ≡ t.loads))
-    (λ refusal. u ≡ t)
+  -- what adding an entry does, by the record that it makes
+  abbrev pub EntryAdded : Result X LimitFault → Answer → Tables → Tables → Type 0
+  EntryAdded made r t u = MatchResult made (λ x. Taken x r t u) (λ o. Refused r t u) × FullWhenTaken (k.table t) r
 
 -- the mark named a component and names none any more, every other mark names what it named before, and plates and loads stay as they are
 abbrev pub MarkFreed : ℕ → Tables → Tables → Type 0
@@ -72,19 +68,6 @@ MarkFreed m t u =
 
 abbrev pub MarkStruck : ℕ → Answer → Tables → Tables → Type 0
 MarkStruck m r t u = MatchResult r (λ ok. MarkFreed m t u) (λ refusal. u ≡ t)
-
--- the same of an entry: outside its limits it is refused and changes nothing
-abbrev pub Refused : Answer → Tables → Tables → Type 0
-Refused r t u = (is_ok r ≡ false) × (u ≡ t)
-
-abbrev pub PlateAdded : PlateEntry → Answer → Tables → Tables → Type 0
-PlateAdded e r t u = MatchResult (plate_checked e) (λ p. PlateTaken p r t u) (λ o. Refused r t u)
-
-abbrev pub GroupAdded : BoltGroupEntry → Answer → Tables → Tables → Type 0
-GroupAdded e r t u = MatchResult (group_checked e) (λ g. GroupTaken g r t u) (λ o. Refused r t u)
-
-abbrev pub WeldAdded : WeldEntry → Answer → Tables → Tables → Type 0
-WeldAdded e r t u = MatchResult (weld_checked e) (λ w. WeldTaken w r t u) (λ o. Refused r t u)
 
 abbrev pub ComponentStruck : ℤ → Answer → Tables → Tables → Type 0
 ComponentStruck z r t u = MatchResult (mark_checked z) (λ m. MarkStruck m r t u) (λ o. Refused r t u)
@@ -116,9 +99,9 @@ drafted t (act ∷ more) = drafted (holding t act) more
 
 -- what an act does, refused or not, by its answer and what the book holds before and after it
 abbrev pub Does : Act → Answer → Tables → Tables → Type 0
-Does (adds_plate e) r t u = PlateAdded e r t u × FullWhenTaken t.plates r
-Does (adds_group e) r t u = GroupAdded e r t u × FullWhenTaken t.bolt_groups r
-Does (adds_weld e) r t u = WeldAdded e r t u × FullWhenTaken t.welds r
+Does (adds_plate e) r t u = EntryAdded plate_kind (plate_checked e) r t u
+Does (adds_group e) r t u = EntryAdded group_kind (group_checked e) r t u
+Does (adds_weld e) r t u = EntryAdded weld_kind (weld_checked e) r t u
 Does (strikes z) r t u = ComponentStruck z r t u
 
 abbrev pub DoneNext : Tables → Act → Type 0

@@ -11,7 +11,6 @@ use Rattle.parts.specs.declared.plates.Plate.{Plate}
 use Rattle.bolting.specs.declared.bolt_groups.BoltGroup.{BoltGroup}
 use Rattle.parts.specs.declared.welds.Weld.{Weld}
 use Rattle.parts.specs.declared.loads.Load.{Load}
-use Rattle.book.specs.declared.tables.Table.{Table}
 use Rattle.book.specs.declared.tables.Tables.{Tables}
 use Rattle.book.specs.declared.tables.Places.{Places}
 use Rattle.book.specs.Tabled.{empty_table, records_in}
@@ -42,16 +41,6 @@ empty_tables p = record {
   welds = empty_table 50 blank_weld p.welds;
   loads = empty_table 200 blank_load p.loads;
 }
-
--- the same but for one table
-abbrev pub with_plates : Table Plate 50 → Tables → Tables
-with_plates ps t = record { plates = ps; bolt_groups = t.bolt_groups; welds = t.welds; loads = t.loads }
-
-abbrev pub with_groups : Table BoltGroup 50 → Tables → Tables
-with_groups gs t = record { plates = t.plates; bolt_groups = gs; welds = t.welds; loads = t.loads }
-
-abbrev pub with_welds : Table Weld 50 → Tables → Tables
-with_welds ws t = record { plates = t.plates; bolt_groups = t.bolt_groups; welds = ws; loads = t.loads }
 
 -- the record that a mark names
 abbrev pub plate_named : Tables → ℕ → Option Plate

@@ -2,5 +2,6 @@
 #![tactic(auto)]
 
 pub mod drafting;
+pub mod entered;
 pub mod refusals;
 pub mod tables;

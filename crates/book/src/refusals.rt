@@ -5,7 +5,7 @@ use parts::limits::OutOfLimits;
 use register::Full;
 
 // Why an act on a book was refused. The fields of an entry are counted from 1.
-#[derive(Clone, Copy)]
+#[derive(Clone, Copy, Debug, PartialEq, Eq)]
 pub enum Refusal {
     // a field is outside its limits
     OutOfLimits(u8),

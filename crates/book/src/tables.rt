@@ -13,7 +13,7 @@ pub struct Table<R, const N: usize> {
 }
 
 // How many places of each kind a book is to have; no more are given than the book has.
-#[derive(Clone, Copy)]
+#[derive(Clone, Copy, Debug, PartialEq, Eq)]
 pub struct Places {
     pub plates: usize,
     pub bolt_groups: usize,

@@ -1,16 +1,14 @@
 ghost use Rattle.std.specs.Prelude.{◌≡◌};
 ghost use Rattle.book.specs.Tables.{empty_tables};
-ghost use Rattle.book.specs.Drafts.{plate_answer, plate_entered, group_answer, group_entered, weld_answer, weld_entered, strike_answer, struck_out};
+ghost use Rattle.book.specs.Drafts.{gates, stored, entry_answer, entry_stored, strike_answer, struck_out};
 ghost use Rattle.book.specs.Laws.{DraftingLaws};
 
 use crate::drafting::Drafting;
+use crate::entered::Entered;
 use crate::refusals::Refusal;
 use crate::tables::{Places, Tables};
-use bolting::bolt_groups::BoltGroupEntry;
 use parts::entries::Entry;
 use parts::limits::{OutOfLimits, mark};
-use parts::plates::PlateEntry;
-use parts::welds::WeldEntry;
 
 // What a book holds when it begins; what holds of every book that is drafted is shown here.
 fn no_records(places: Places) -> Tables
@@ -33,31 +31,15 @@ impl<A> Drafting<A> {
         }
     }
 
-    pub fn add_plate(&mut self, entry: PlateEntry) -> Result<(), Refusal>
-        ensures answer { result ≡ plate_answer self.old.tables entry }
+    // Takes the record that the entry makes.
+    pub fn add<E: Entry + Drop>(&mut self, entry: E) -> Result<(), Refusal>
+    where
+        E::Record: Entered,
+        ensures answer { result ≡ entry_answer (gates E.Record.kind self.old.tables) (E.checked entry) }
         ensures annex { self.new.annex ≡ self.old.annex }
-        ensures tables { self.new.tables ≡ plate_entered self.old.tables entry }
+        ensures tables { self.new.tables ≡ entry_stored self.old.tables (stored E.Record.kind self.old.tables) (E.checked entry) }
     {
-        let plate = entry.checked()?;
-        self.tables.enter_plate(plate)
-    }
-
-    pub fn add_bolt_group(&mut self, entry: BoltGroupEntry) -> Result<(), Refusal>
-        ensures answer { result ≡ group_answer self.old.tables entry }
-        ensures annex { self.new.annex ≡ self.old.annex }
-        ensures tables { self.new.tables ≡ group_entered self.old.tables entry }
-    {
-        let group = entry.checked()?;
-        self.tables.enter_bolt_group(group)
-    }
-
-    pub fn add_weld(&mut self, entry: WeldEntry) -> Result<(), Refusal>
-        ensures answer { result ≡ weld_answer self.old.tables entry }
-        ensures annex { self.new.annex ≡ self.old.annex }
-        ensures tables { self.new.tables ≡ weld_entered self.old.tables entry }
-    {
-        let weld = entry.checked()?;
-        self.tables.enter_weld(weld)
+        entry.checked()?.enter(&mut self.tables)
     }
 
     // Strikes the component of that mark.
