@@ -20,12 +20,12 @@ enum Deed {
 
 fn done(book: &mut Drafting<()>, deed: Deed) -> Result<(), Refusal> {
     match deed {
-        Deed::Plate(mark) => book.add_plate(PlateEntry::from([mark, 10, 275])),
+        Deed::Plate(mark) => book.add(PlateEntry::from([mark, 10, 275])),
         Deed::Group(mark, plate_a, plate_b) => {
             let fields = [mark, plate_a, plate_b, 20, 88, 2, 2, 40, 70, 40, 70];
-            book.add_bolt_group(BoltGroupEntry::from(fields))
+            book.add(BoltGroupEntry::from(fields))
         }
-        Deed::Weld(mark, plate_a, plate_b) => book.add_weld(WeldEntry::from([
+        Deed::Weld(mark, plate_a, plate_b) => book.add(WeldEntry::from([
             mark, plate_a, plate_b, 50, 200,
         ])),
         Deed::Strike(mark) => book.strike(mark),

@@ -27,7 +27,7 @@ pub(crate) fn add_plate(book: &mut Drafting<Rules>, columns: &[u8]) -> Result<()
     ensures tables { book.new.tables ≡ plate_after book.old.tables (numbers_in 3 columns.now) }
 {
     let entry = PlateEntry::from(numbers(columns)?);
-    Ok(book.add_plate(entry)?)
+    Ok(book.add(entry)?)
 }
 
 pub(crate) fn add_bolt_group(book: &mut Drafting<Rules>, columns: &[u8]) -> Result<(), Fault>
@@ -37,7 +37,7 @@ pub(crate) fn add_bolt_group(book: &mut Drafting<Rules>, columns: &[u8]) -> Resu
     ensures tables { book.new.tables ≡ group_after book.old.tables (numbers_in 11 columns.now) }
 {
     let entry = BoltGroupEntry::from(numbers(columns)?);
-    Ok(book.add_bolt_group(entry)?)
+    Ok(book.add(entry)?)
 }
 
 pub(crate) fn add_weld(book: &mut Drafting<Rules>, columns: &[u8]) -> Result<(), Fault>
@@ -47,7 +47,7 @@ pub(crate) fn add_weld(book: &mut Drafting<Rules>, columns: &[u8]) -> Result<(),
     ensures tables { book.new.tables ≡ weld_after book.old.tables (numbers_in 5 columns.now) }
 {
     let entry = WeldEntry::from(numbers(columns)?);
-    Ok(book.add_weld(entry)?)
+    Ok(book.add(entry)?)
 }
 
 pub(crate) fn strike(book: &mut Drafting<Rules>, columns: &[u8]) -> Result<(), Fault>
