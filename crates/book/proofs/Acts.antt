@@ -21,8 +21,8 @@ use Rattle.parts.specs.Entries.{plate_checked, weld_checked}
 use Rattle.book.specs.Tables.{empty_tables, plate_named, group_named, weld_named, mark_used}
 use Rattle.book.specs.Order.{in_order, orderly}
 use Rattle.book.specs.Drafts.{Answer, refuse_if, full_or, and_then, component_gates, Kind, plate_kind, group_kind, weld_kind, named, with_record, gates, stored, strike_gates, component_struck, entry_answer, entry_stored, mark_checked}
-use Rattle.book.specs.Laws.{NewlyNamed, FullWhenTaken, PlatesInPlace, Taken, EntryAdded, MarkFreed, MarkStruck, Refused, Act, adds_plate, adds_group, adds_weld, strikes, holding, drafted, DoneNext, DraftingLaws}
-use Rattle.book.proofs.Order.{plates_of_record, groups_known, welds_known, marks_less_group, marks_less_weld, order_plate, order_group, order_weld, order_less_group, order_less_weld, one_component, mark_gone}
+use Rattle.book.specs.Laws.{Joined, NewlyNamed, FullWhenTaken, PlatesInPlace, Taken, EntryAdded, MarkFreed, MarkStruck, Refused, Act, adds_plate, adds_group, adds_weld, strikes, holding, drafted, DoneNext, DraftingLaws}
+use Rattle.book.proofs.Order.{plates_of_record, ordered, marks_less_group, marks_less_weld, order_plate, order_group, order_weld, order_less_group, order_less_weld, one_component, mark_gone}
 
 module _ {R : Type 0} {N : ℕ} (t : Table R N) where
   -- is a place free?
@@ -86,11 +86,11 @@ plate_not_full true e = cc
 plate_not_full false e = cc
 
 component_passed : (used a b : Bool) → is_ok (refuse_if used InUse (refuse_if (not a) (Unknown 2) (refuse_if (not b) (Unknown 3) (Ok tt)))) ≡ true →
-    (used ≡ false) × (a ≡ true) × (b ≡ true)
+    (used ≡ false) × ((a ≡ true) × (b ≡ true))
 component_passed true a b e = absurd (false≢true e)
 component_passed false false b e = absurd (false≢true e)
 component_passed false true false e = absurd (false≢true e)
-component_passed false true true e = (refl, refl, refl)
+component_passed false true true e = (refl, (refl, refl))
 
 component_not_full : (used a b : Bool) → refuse_if used InUse (refuse_if (not a) (Unknown 2) (refuse_if (not b) (Unknown 3) (Ok tt))) ≡ Err Full → ⊥
 component_not_full true a b e = cc
@@ -122,8 +122,8 @@ module _ (t : Tables) where
 
   pub in_place : orderly t ≡ true → PlatesInPlace t
   in_place order = (
-    (λ n g e. plates_of_record (λ g. g.marks) ps group_mark n gs g (groups_known ps gs ws order) e),
-    (λ n w e. plates_of_record (λ w. w.marks) ps weld_mark n ws w (welds_known ps gs ws order) e),
+    (λ n g e. plates_of_record (λ g. g.marks) ps group_mark n gs g (ordered ps gs ws order).groups_known e),
+    (λ n w e. plates_of_record (λ w. w.marks) ps weld_mark n ws w (ordered ps gs ws order).welds_known e),
     one_component ps gs ws order,
   )
 
@@ -216,7 +216,7 @@ module _ (t : Tables) (order : orderly t ≡ true) where
   }
 
   -- what the gates of a component have tested
-  known : (c : ComponentMarks) → is_ok (component_gates t c) ≡ true → (mark_used t c.mark ≡ false) × (is_some (plate_named t c.plate_a) ≡ true) × (is_some (plate_named t c.plate_b) ≡ true)
+  known : (c : ComponentMarks) → is_ok (component_gates t c) ≡ true → (mark_used t c.mark ≡ false) × Joined t c
   known c = component_passed (mark_used t c.mark) (is_some (plate_named t c.plate_a)) (is_some (plate_named t c.plate_b))
 
   known_full : (c : ComponentMarks) → component_gates t c ≡ Err Full → ⊥
@@ -229,7 +229,7 @@ module _ (t : Tables) (order : orderly t ≡ true) where
     not_full = λ g. known_full g.marks;
     stays_orderly = λ g e room.
         let h = known g.marks e in
-        ap (λ l. in_order (ps t) l (ws t)) (records_added t.bolt_groups g room) ∙ order_group (ps t) (gs t) (ws t) order g h.0 h.1 h.2;
+        ap (λ l. in_order (ps t) l (ws t)) (records_added t.bolt_groups g room) ∙ order_group (ps t) (gs t) (ws t) order g h.0 h.1;
   }
 
   weld_laws : KindLaws weld_kind t
@@ -239,7 +239,7 @@ module _ (t : Tables) (order : orderly t ≡ true) where
     not_full = λ w. known_full w.marks;
     stays_orderly = λ w e room.
         let h = known w.marks e in
-        ap (λ l. in_order (ps t) (gs t) l) (records_added t.welds w room) ∙ order_weld (ps t) (gs t) (ws t) order w h.0 h.1 h.2;
+        ap (λ l. in_order (ps t) (gs t) l) (records_added t.welds w room) ∙ order_weld (ps t) (gs t) (ws t) order w h.0 h.1;
   }
 
   -- one act on a book in order

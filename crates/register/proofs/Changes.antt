@@ -1,5 +1,5 @@
 -- What a record added last and a record taken out mean for looking up by number.
-use Rattle.std.proofs.Common.{◌≡◌, ℕ, ◌+◌, true, false, cond, eqb, List, [], ◌∷◌, ◌++◌, length, is_some, Some, None, sym, refl, ap, ◌∙◌, inl, inr, arith}
+use Rattle.std.proofs.Common.{◌≡◌, ℕ, append-nil, ◌+◌, true, false, cond, eqb, List, [], ◌∷◌, ◌++◌, length, is_some, Some, None, sym, refl, ap, ◌∙◌, inl, inr, arith}
 use Rattle.std.proofs.lemmas.Bool.{cases_Bool, eqb-true, eqb-false, eq-eqb, ne_eqb, and_parts, not-true}
 use Rattle.std.specs.Option.{option_or}
 use Rattle.std.proofs.lemmas.List.Folds.{find-append}
@@ -14,9 +14,13 @@ module _ {R : Type 0} (f : R → ℕ) where
   pub record_added : (x : R) (xs : List R) → record_of f (f x) xs ≡ None → record_of f (f x) (xs ++ (x ∷ [])) ≡ Some x
   record_added x xs e = record_back (f x) xs (x ∷ []) e ∙ rw (eq-eqb (f x) (f x) refl)
 
+  -- a record under another number, between two lists
+  record_between : (k : ℕ) (x : R) (xs ys : List R) → (k ≡ f x → ⊥) → record_of f k (xs ++ (x ∷ ys)) ≡ record_of f k (xs ++ ys)
+  record_between k x [] ys ne = rw (ne_eqb (f x) k (λ e. ne (sym e)))
+  record_between k x (y ∷ xs) ys ne = ap (cond (eqb (f y) k) (Some y)) (record_between k x xs ys ne)
+
   pub record_others : (k : ℕ) (x : R) (xs : List R) → (k ≡ f x → ⊥) → record_of f k (xs ++ (x ∷ [])) ≡ record_of f k xs
-  record_others k x [] ne = rw (ne_eqb (f x) k (λ e. ne (sym e)))
-  record_others k x (y ∷ xs) ne = ap (cond (eqb (f y) k) (Some y)) (record_others k x xs ne)
+  record_others k x xs ne = record_between k x xs [] ne ∙ ap (record_of f k) (append-nil xs)
 
   pub without_unknown : (k : ℕ) (xs : List R) → record_of f k xs ≡ None → without f k xs ≡ xs
   without_unknown k [] = λ e. refl
@@ -74,12 +78,16 @@ module _ {R : Type 0} (f : R → ℕ) where
         | false ↦ λ e. (refl, e)
       ]
 
+  -- a record under a free number, between two lists
+  pub unrepeated_between : (x : R) (xs ys : List R) → unrepeated f (xs ++ ys) ≡ true → record_of f (f x) (xs ++ ys) ≡ None → unrepeated f (xs ++ (x ∷ ys)) ≡ true
+  unrepeated_between x [] ys u e = rw (e, u)
+  unrepeated_between x (y ∷ xs) ys u e =
+      let p = first_free y (xs ++ ys) u in
+      let t = tail_none (f x) y (xs ++ ys) e in
+      first_from y (xs ++ (x ∷ ys)) (record_between (f y) x xs ys (eqb-false (f y) (f x) t.0) ∙ p.0) (unrepeated_between x xs ys p.1 t.1)
+
   pub unrepeated_added : (x : R) (xs : List R) → StaysUnrepeated f x xs (xs ++ (x ∷ []))
-  unrepeated_added x [] u e = refl
-  unrepeated_added x (y ∷ xs) u e =
-      let p = first_free y xs u in
-      let t = tail_none (f x) y xs e in
-      first_from y (xs ++ (x ∷ [])) (record_others (f y) x xs (eqb-false (f y) (f x) t.0) ∙ p.0) (unrepeated_added x xs p.1 t.1)
+  unrepeated_added x xs u e = let same = append-nil xs in unrepeated_between x xs [] (ap (unrepeated f) same ∙ u) (ap (record_of f (f x)) same ∙ e)
 
   -- the laws, of the lists themselves
   pub added_last : (x : R) (xs : List R) → Added f x xs (xs ++ (x ∷ []))
