@@ -8,7 +8,7 @@ use Rattle.register.proofs.Changes.{record_added, record_others, record_without_
 use Rattle.register.proofs.Places.{held_struck, length_places_struck}
 use Rattle.parts.specs.declared.limits.OutOfLimits.{OutOfLimits as LimitFault}
 use Rattle.parts.specs.Numbers.{weld_mark}
-use Rattle.bolting.specs.Groups.{group_mark, group_checked}
+use Rattle.bolting.specs.Groups.{group_mark}
 use Rattle.parts.specs.declared.marks.ComponentMarks.{ComponentMarks}
 use Rattle.parts.specs.declared.plates.Plate.{Plate}
 use Rattle.bolting.specs.declared.bolt_groups.BoltGroup.{BoltGroup}
@@ -17,10 +17,9 @@ use Rattle.book.specs.declared.tables.Table.{Table}
 use Rattle.book.specs.declared.tables.Tables.{Tables}
 use Rattle.book.specs.declared.refusals.Refusal.TheVariants.{InUse, Unknown, Full}
 use Rattle.book.specs.Tabled.{given_places, records_in, refilled, table_added, table_struck}
-use Rattle.parts.specs.Entries.{plate_checked, weld_checked}
 use Rattle.book.specs.Tables.{empty_tables, plate_named, group_named, weld_named, mark_used}
 use Rattle.book.specs.Order.{in_order, orderly}
-use Rattle.book.specs.Drafts.{Answer, refuse_if, full_or, and_then, component_gates, Kind, plate_kind, group_kind, weld_kind, named, with_record, gates, stored, strike_gates, component_struck, entry_answer, entry_stored, mark_checked}
+use Rattle.book.specs.Drafts.{Answer, refuse_if, full_or, and_then, component_gates, Kind, plate_kind, group_kind, weld_kind, named, with_record, gates, stored, strike_gates, component_struck, entry_answer, entry_stored, answer_to_entry, after_entry, mark_checked}
 use Rattle.book.specs.Laws.{Joined, NewlyNamed, FullWhenTaken, PlatesInPlace, Taken, EntryAdded, MarkFreed, MarkStruck, Refused, Act, adds_plate, adds_group, adds_weld, strikes, holding, drafted, DoneNext, DraftingLaws}
 use Rattle.book.proofs.Order.{plates_of_record, ordered, marks_less_group, marks_less_weld, order_plate, order_group, order_weld, order_less_group, order_less_weld, one_component, mark_gone}
 
@@ -195,12 +194,12 @@ module _ {X : Type 0} (k : Kind X) (t : Tables) (order : orderly t ≡ true) (la
   orderly_stored : (x : X) → orderly (stored k t x) ≡ true
   orderly_stored x = cond_both (is_ok (gates k t x)) (with_record k x t) t (λ u. orderly u ≡ true) (λ e. let h = passed x e in laws.stays_orderly x h.0 h.1) (λ e. order)
 
-  full_when_taken : (made : Result X LimitFault) → FullWhenTaken (k.table t) (entry_answer (gates k t) made)
+  full_when_taken : (made : Result X LimitFault) → FullWhenTaken (k.table t) (answer_to_entry k t made)
   full_when_taken (Ok x) e = ltb-false _ _ (gates_full (k.fits t x) (has_room (k.table t)) (laws.not_full x) e)
   full_when_taken (Err o) e = cc
 
   entry_laws : (made : Result X LimitFault) →
-      (orderly (entry_stored t (stored k t) made) ≡ true) × EntryAdded k made (entry_answer (gates k t) made) t (entry_stored t (stored k t) made)
+      (orderly (after_entry k t made) ≡ true) × EntryAdded k made (answer_to_entry k t made) t (after_entry k t made)
   entry_laws made =
       let both = by_limits t order (gates k t) (stored k t) (λ x r u. Taken k x r t u) (λ x. (orderly_stored x, taken x)) made in
       (both.0, (both.1, full_when_taken made))
@@ -244,9 +243,9 @@ module _ (t : Tables) (order : orderly t ≡ true) where
 
   -- one act on a book in order
   act_laws : (act : Act) → (orderly (holding t act) ≡ true) × DoneNext t act
-  act_laws (adds_plate e) = entry_laws plate_kind t order plate_laws (plate_checked e)
-  act_laws (adds_group e) = entry_laws group_kind t order group_laws (group_checked e)
-  act_laws (adds_weld e) = entry_laws weld_kind t order weld_laws (weld_checked e)
+  act_laws (adds_plate made) = entry_laws plate_kind t order plate_laws made
+  act_laws (adds_group made) = entry_laws group_kind t order group_laws made
+  act_laws (adds_weld made) = entry_laws weld_kind t order weld_laws made
   act_laws (strikes z) =
       by_limits t order (strike_gates t) (component_struck t) (λ m r u. MarkStruck m r t u) (λ m. (orderly_struck t order m, mark_struck t order m)) (mark_checked z)
 

@@ -47,6 +47,17 @@ component_gates t c =
     (refuse_if (not (is_some (plate_named t c.plate_b))) (Unknown 3)
     (Ok tt)))
 
+module _ {X : Type 0} where
+  -- an entry within its limits goes on to the other gates
+  abbrev pub entry_answer : (X → Answer) → Result X LimitFault → Answer
+  entry_answer gates (Ok x) = gates x
+  entry_answer gates (Err o) = Err (of_limits o)
+
+  -- outside them it changes nothing
+  abbrev pub entry_stored : Tables → (X → Tables) → Result X LimitFault → Tables
+  entry_stored t store (Ok x) = store x
+  entry_stored t store (Err o) = t
+
 -- A kind of records that a book takes: the mark that a record bears, the table that it stands in, the
 -- book with another such table, and what is asked of a record before it is asked for a free place.
 pub record Kind (X : Type 0) : Type 0 where
@@ -95,6 +106,13 @@ module _ {X : Type 0} (k : Kind X) where
   abbrev pub stored : Tables → X → Tables
   stored t x = cond (is_ok (gates t x)) (with_record x t) t
 
+  -- the same of an entry, by what it makes: the record, or its first field outside the limits
+  abbrev pub answer_to_entry : Tables → Result X LimitFault → Answer
+  answer_to_entry t made = entry_answer (gates t) made
+
+  abbrev pub after_entry : Tables → Result X LimitFault → Tables
+  after_entry t made = entry_stored t (stored t) made
+
 -- striking: a component bears the mark, and leaves its table
 abbrev pub strike_gates : Tables → ℕ → Answer
 strike_gates t m = refuse_if (not (mark_used t m)) (Unknown 1) (Ok tt)
@@ -105,34 +123,23 @@ component_struck t m =
     (record t { bolt_groups = table_struck group_mark m t.bolt_groups })
     (record t { welds = table_struck weld_mark m t.welds })
 
-module _ {X : Type 0} where
-  -- an entry within its limits goes on to the other gates
-  abbrev pub entry_answer : (X → Answer) → Result X LimitFault → Answer
-  entry_answer gates (Ok x) = gates x
-  entry_answer gates (Err o) = Err (of_limits o)
-
-  -- outside them it changes nothing
-  abbrev pub entry_stored : Tables → (X → Tables) → Result X LimitFault → Tables
-  entry_stored t store (Ok x) = store x
-  entry_stored t store (Err o) = t
-
 abbrev pub plate_answer : Tables → PlateEntry → Answer
-plate_answer t e = entry_answer (gates plate_kind t) (plate_checked e)
+plate_answer t e = answer_to_entry plate_kind t (plate_checked e)
 
 abbrev pub plate_entered : Tables → PlateEntry → Tables
-plate_entered t e = entry_stored t (stored plate_kind t) (plate_checked e)
+plate_entered t e = after_entry plate_kind t (plate_checked e)
 
 abbrev pub group_answer : Tables → BoltGroupEntry → Answer
-group_answer t e = entry_answer (gates group_kind t) (group_checked e)
+group_answer t e = answer_to_entry group_kind t (group_checked e)
 
 abbrev pub group_entered : Tables → BoltGroupEntry → Tables
-group_entered t e = entry_stored t (stored group_kind t) (group_checked e)
+group_entered t e = after_entry group_kind t (group_checked e)
 
 abbrev pub weld_answer : Tables → WeldEntry → Answer
-weld_answer t e = entry_answer (gates weld_kind t) (weld_checked e)
+weld_answer t e = answer_to_entry weld_kind t (weld_checked e)
 
 abbrev pub weld_entered : Tables → WeldEntry → Tables
-weld_entered t e = entry_stored t (stored weld_kind t) (weld_checked e)
+weld_entered t e = after_entry weld_kind t (weld_checked e)
 
 -- a mark to strike has one field
 abbrev pub mark_checked : ℤ → Result ℕ LimitFault

@@ -2,14 +2,10 @@
 -- `t` is what the book holds before an act, `u` what it holds afterwards.
 use Rattle.std.specs.Prelude.{◌≡◌, ℕ, ◌≤◌, true, false, List, [], ◌∷◌, length, ℤ, is_some, is_ok, Some, None, Err, Option, Result, MatchResult, ◌≢◌}
 use Rattle.parts.specs.declared.limits.OutOfLimits.{OutOfLimits as LimitFault}
-use Rattle.bolting.specs.Groups.{group_checked}
-use Rattle.parts.specs.Entries.{plate_checked, weld_checked}
 use Rattle.parts.specs.declared.marks.ComponentMarks.{ComponentMarks}
+use Rattle.parts.specs.declared.plates.Plate.{Plate}
 use Rattle.bolting.specs.declared.bolt_groups.BoltGroup.{BoltGroup}
 use Rattle.parts.specs.declared.welds.Weld.{Weld}
-use Rattle.parts.specs.declared.plates.PlateEntry.{PlateEntry}
-use Rattle.bolting.specs.declared.bolt_groups.BoltGroupEntry.{BoltGroupEntry}
-use Rattle.parts.specs.declared.welds.WeldEntry.{WeldEntry}
 use Rattle.book.specs.declared.tables.Table.{Table}
 use Rattle.book.specs.declared.tables.Tables.{Tables}
 use Rattle.book.specs.declared.refusals.Refusal.TheVariants.{Full}
@@ -17,7 +13,7 @@ use Rattle.book.specs.Tabled.{given_places}
 use Rattle.book.specs.Tables.{empty_tables, plate_named, group_named, weld_named, mark_used}
 use Rattle.book.specs.declared.tables.Places.{Places}
 use Rattle.book.specs.Order.{orderly}
-use Rattle.book.specs.Drafts.{Answer, Kind, plate_kind, group_kind, weld_kind, named, mark_checked, plate_answer, plate_entered, group_answer, group_entered, weld_answer, weld_entered, strike_answer, struck_out}
+use Rattle.book.specs.Drafts.{Answer, Kind, plate_kind, group_kind, weld_kind, named, answer_to_entry, after_entry, mark_checked, strike_answer, struck_out}
 
 -- both plates are in the book
 abbrev pub Joined : Tables → ComponentMarks → Type 0
@@ -72,24 +68,25 @@ MarkStruck m r t u = MatchResult r (λ ok. MarkFreed m t u) (λ refusal. u ≡ t
 abbrev pub ComponentStruck : ℤ → Answer → Tables → Tables → Type 0
 ComponentStruck z r t u = MatchResult (mark_checked z) (λ m. MarkStruck m r t u) (λ o. Refused r t u)
 
--- what may be done to a book that is drafted, in any order and as often as one likes
+-- what may be done to a book that is drafted, in any order and as often as one likes: an entry is added, by what it makes (the
+-- record, or its first field outside the limits), or a component is struck
 pub data Act : Type 0 where
-  adds_plate : PlateEntry → Act
-  adds_group : BoltGroupEntry → Act
-  adds_weld : WeldEntry → Act
+  adds_plate : Result Plate LimitFault → Act
+  adds_group : Result BoltGroup LimitFault → Act
+  adds_weld : Result Weld LimitFault → Act
   strikes : ℤ → Act
 
 -- what an act is answered, and what the book then holds
 abbrev pub answer_to : Tables → Act → Answer
-answer_to t (adds_plate e) = plate_answer t e
-answer_to t (adds_group e) = group_answer t e
-answer_to t (adds_weld e) = weld_answer t e
+answer_to t (adds_plate made) = answer_to_entry plate_kind t made
+answer_to t (adds_group made) = answer_to_entry group_kind t made
+answer_to t (adds_weld made) = answer_to_entry weld_kind t made
 answer_to t (strikes z) = strike_answer t z
 
 abbrev pub holding : Tables → Act → Tables
-holding t (adds_plate e) = plate_entered t e
-holding t (adds_group e) = group_entered t e
-holding t (adds_weld e) = weld_entered t e
+holding t (adds_plate made) = after_entry plate_kind t made
+holding t (adds_group made) = after_entry group_kind t made
+holding t (adds_weld made) = after_entry weld_kind t made
 holding t (strikes z) = struck_out t z
 
 -- what a book holds after acts, the first of them first
@@ -99,9 +96,9 @@ drafted t (act ∷ more) = drafted (holding t act) more
 
 -- what an act does, refused or not, by its answer and what the book holds before and after it
 abbrev pub Does : Act → Answer → Tables → Tables → Type 0
-Does (adds_plate e) r t u = EntryAdded plate_kind (plate_checked e) r t u
-Does (adds_group e) r t u = EntryAdded group_kind (group_checked e) r t u
-Does (adds_weld e) r t u = EntryAdded weld_kind (weld_checked e) r t u
+Does (adds_plate made) r t u = EntryAdded plate_kind made r t u
+Does (adds_group made) r t u = EntryAdded group_kind made r t u
+Does (adds_weld made) r t u = EntryAdded weld_kind made r t u
 Does (strikes z) r t u = ComponentStruck z r t u
 
 abbrev pub DoneNext : Tables → Act → Type 0

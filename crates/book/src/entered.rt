@@ -8,8 +8,19 @@ use parts::plates::Plate;
 use parts::welds::Weld;
 use register::Numbered;
 
+// Other crates add no kind of record: the laws of a book are shown of these three.
+mod sealed {
+    pub trait Sealed {}
+}
+
+impl sealed::Sealed for Plate {}
+
+impl sealed::Sealed for BoltGroup {}
+
+impl sealed::Sealed for Weld {}
+
 // A record that a book takes.
-pub trait Entered: Numbered {
+pub trait Entered: Numbered + sealed::Sealed {
     ghost kind: { Kind Self };
 
     // Takes the record into the table of its kind, unless a gate refuses it.

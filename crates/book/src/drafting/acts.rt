@@ -1,6 +1,6 @@
 ghost use Rattle.std.specs.Prelude.{◌≡◌};
 ghost use Rattle.book.specs.Tables.{empty_tables};
-ghost use Rattle.book.specs.Drafts.{gates, stored, entry_answer, entry_stored, strike_answer, struck_out};
+ghost use Rattle.book.specs.Drafts.{answer_to_entry, after_entry, strike_answer, struck_out};
 ghost use Rattle.book.specs.Laws.{DraftingLaws};
 
 use crate::drafting::Drafting;
@@ -35,9 +35,9 @@ impl<A> Drafting<A> {
     pub fn add<E: Entry + Drop>(&mut self, entry: E) -> Result<(), Refusal>
     where
         E::Record: Entered,
-        ensures answer { result ≡ entry_answer (gates E.Record.kind self.old.tables) (E.checked entry) }
+        ensures answer { result ≡ answer_to_entry E.Record.kind self.old.tables (E.checked entry) }
         ensures annex { self.new.annex ≡ self.old.annex }
-        ensures tables { self.new.tables ≡ entry_stored self.old.tables (stored E.Record.kind self.old.tables) (E.checked entry) }
+        ensures tables { self.new.tables ≡ after_entry E.Record.kind self.old.tables (E.checked entry) }
     {
         entry.checked()?.enter(&mut self.tables)
     }
