@@ -7,10 +7,7 @@ use Rattle.book.specs.declared.tables.Table.{Table}
 use Rattle.book.specs.Tabled.{given_places, records_in, refilled, table_struck}
 
 module _ {R : Type 0} {N : ℕ} (t : Table R N) where
-  -- the places as they were
-  refilled_same : refilled t t.register.count (given_places t) ≡ t
-  refilled_same = rw (take-append-drop t.given t.places)
-
+  -- what the register leaves of them, with the number held and without it
   pub refilled_struck : (f : R → ℕ) (k : ℕ) → refilled t (count_struck f k t.register.count (given_places t)) (places_struck f k t.register.count (given_places t)) ≡ table_struck f k t
   refilled_struck f k =
       let n = t.register.count in
