@@ -89,7 +89,8 @@ impl<R: Numbered, const N: usize> Table<R, N> {
         self.register.strike(&mut self.places[..lent], number)
     }
 
-    // How many of the places the register is lent.
+    // How many of the places the register is lent. A ghost field `given ≤ N` would spare the minimum,
+    // and ask a proof of each definition that makes a table.
     fn lent(&self) -> usize
         ensures part { take result self.now.places ≡ given_places self.now }
         ensures rest { drop result self.now.places ≡ drop self.now.given self.now.places }
