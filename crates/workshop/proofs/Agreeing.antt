@@ -1,11 +1,10 @@
 -- What is printed in a column is read again, and nothing else is read as that number.
-use Rattle.std.proofs.Common.{◌≡◌, ℕ, zero, suc, ◌+◌, ◌-◌, ◌*◌, ◌/◌, ◌%◌, ◌^◌, ◌<◌, ◌≤◌, true, eqb, leb, ◌≢◌, List, [], ◌∷◌, ◌++◌, map, length, take, drop, pos, negsuc, Some, None, Ok, Option, sym, refl, ap, ◌∙◌, inl, inr, append_assoc, div-lt_iff_lt-mul, pow-suc, le-div_iff_mul-le, div-one, arith, lit<, length-append}
+use Rattle.std.proofs.Common.{◌≡◌, ℕ, zero, suc, ◌+◌, ◌-◌, ◌*◌, ◌/◌, ◌%◌, ◌^◌, ◌<◌, ◌≤◌, true, eqb, leb, ◌≢◌, List, [], ◌∷◌, map, length, pos, negsuc, Some, None, Ok, Option, sym, refl, ap, ◌∙◌, inl, inr, div-lt_iff_lt-mul, pow-suc, le-div_iff_mul-le, div-one, arith, lit<}
 use native.Mathlib.Nat.{div-div-eq-div-mul, one-le-pow}
 use Rattle.std.proofs.lemmas.Bool.{cases_Bool, cases_lt, cases_eq, eqb-true, eqb-false, ne_eqb, le-leb, leb-true, lt-ltb, le-ltb, and_parts, and_from}
 use Rattle.std.specs.Option.{option_map, ok_or}
-use Rattle.std.specs.List.{between, flat_map, AllByRecursion}
-use Rattle.std.proofs.lemmas.List.{drop_at}
-use Rattle.workshop.specs.Columns.{ColumnsAgree, ColumnsSideBySide, column_of, digit_at, digits_after, field_at, is_digit, natural_in, negative, number_in, number_then, numbers_behind, signed_in, zero_then}
+use Rattle.std.specs.List.{flat_map, AllByRecursion}
+use Rattle.workshop.specs.Columns.{ColumnsAgree, ColumnsSideBySide, column_of, digit_at, digits_after, fields_in, is_digit, natural_in, negative, number_in, number_then, numbers_from, signed_in, zero_then}
 
 -- a number printed at the right of k places and one
 wide : ℕ → ℕ → List ℕ
@@ -175,22 +174,14 @@ unfolding wide
 columns_agree n small = (number_read 5 n (omega arith), only_column n)
 
 -- columns side by side are read again, in their order
-columns_behind : (i : ℕ) (front : List ℕ) (ns : List ℕ) → length front ≡ 6 * i → AllByRecursion (λ n. n ≤ 999999) ns →
-    numbers_behind i (length ns) (front ++ flat_map column_of ns) ≡ Ok (map pos ns)
-unfolding numbers_behind
-columns_behind i front [] long small = refl
-columns_behind i front (n ∷ ns) long (first, small) =
-    let six : 6 * i + 6 - 6 * i ≡ 6 = omega arith in
-    let bytes : List ℕ = front ++ flat_map column_of (n ∷ ns) in
-    let field : between (6 * i) (6 * i + 6) bytes ≡ column_of n =
-    ap (λ k. take k (drop (6 * i) bytes)) six ∙ ap (take 6) (drop_at front (flat_map column_of (n ∷ ns)) (6 * i) long) in
-    let here : field_at i bytes ≡ Ok (pos n) = ap (λ f. ok_or (number_in f) (record { field = i + 1 })) field
-    ∙ ap (λ o. ok_or o (record { field = i + 1 })) (columns_agree n first).0 in
-    let behind : numbers_behind (suc i) (length ns) bytes ≡ Ok (map pos ns) =
-    ap (numbers_behind (suc i) (length ns)) (sym (append_assoc front (column_of n) (flat_map column_of ns)))
-    ∙ columns_behind (suc i) (front ++ column_of n) ns (simp length-append (omega arith)) small in
-    ap (λ r. number_then r (numbers_behind (suc i) (length ns) bytes)) here ∙ ap (number_then (Ok (pos n))) behind
+columns_behind : (i : ℕ) (ns : List ℕ) → AllByRecursion (λ n. n ≤ 999999) ns →
+    numbers_from i (fields_in (length ns) (flat_map column_of ns)) ≡ Ok (map pos ns)
+unfolding fields_in numbers_from
+columns_behind i [] small = refl
+columns_behind i (n ∷ ns) (first, small) =
+    ap (λ o. number_then (ok_or o (record { field = i })) (numbers_from (i + 1) (fields_in (length ns) (flat_map column_of ns)))) (columns_agree n first).0
+    ∙ ap (number_then (Ok (pos n))) (columns_behind (i + 1) ns small)
 
 pub columns_side_by_side : ColumnsSideBySide
 unfolding ColumnsSideBySide
-columns_side_by_side ns small = columns_behind 0 [] ns refl small
+columns_side_by_side ns small = columns_behind 1 ns small

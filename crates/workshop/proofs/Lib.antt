@@ -3,5 +3,5 @@ mod Examples
 pub mod Printing
 pub mod Reading
 pub mod Splitting
-pub mod Reports
 pub mod Shapes
+pub mod Reports

@@ -1,67 +1,14 @@
 -- Columns and rows printed.
-use Rattle.std.proofs.Common.{◌≡◌, ℕ, ◌+◌, ◌-◌, ◌*◌, ◌/◌, ◌%◌, ◌<◌, ◌≤◌, true, false, cond, eqb, ltb, List, [], ◌∷◌, ◌++◌, length, get_or, take, drop, replicate, sym, refl, ap, ◌∙◌, append_assoc, arith, length-append}
-use lib.ListN.{length-replicate}
+use Rattle.std.proofs.Common.{◌≡◌, ℕ, ◌+◌, ◌/◌, ◌%◌, ◌<◌, true, false, cond, eqb, ltb, List, [], ◌∷◌, ◌++◌, map, length, get_or, sym, refl, ap, ◌∙◌, append_assoc, arith}
 use Rattle.std.specs.List.{flat_map}
-use Rattle.std.proofs.lemmas.List.{take_at, drop_at, take_more, flat_map_more, drop-replicate, length-take-le}
+use Rattle.std.proofs.lemmas.List.{get_or-map, length-map, same_lists}
+use Rattle.std.proofs.lemmas.List.Folds.{flat_map-map}
 use Rattle.std.proofs.lemmas.Bool.{ne_eqb}
 use Rattle.workshop.proofs.Splitting.{lines_first}
-use borrow.Rule.Slice.PartMut.{put_mid}
 use Rattle.workshop.specs.declared.rows.Row.{Row}
 use Rattle.workshop.specs.Columns.{column_of, digit_at}
 use Rattle.workshop.specs.Lines.{line_feeds, lines_in}
 use Rattle.workshop.specs.Rows.{row_bytes, row_numbers}
-
-columns_length : (ns : List ℕ) → length (flat_map column_of ns) ≡ 6 * length ns
-columns_length [] = refl
-columns_length (n ∷ ns) = omega (arith, columns_length ns)
-
--- the columns of so many numbers, and line feeds up to the end
-abbrev pub printed : List ℕ → ℕ → List ℕ
-printed ns i = flat_map column_of (take i ns) ++ replicate (37 - 6 * i) 10
-
-printed_length : (ns : List ℕ) (i : ℕ) → i ≤ length ns → i ≤ 6 → length (printed ns i) ≡ 37
-printed_length ns i within few =
-    simp (length-append, columns_length, length-replicate, length-take-le i ns within) (omega arith)
-
-module _ (ns : List ℕ) (i : ℕ) (within : i < length ns) (few : i < 6) where
-  abbrev front : List ℕ
-  front = flat_map column_of (take i ns)
-
-  abbrev next : List ℕ
-  next = column_of (get_or ns i 0)
-
-  front_length : length front ≡ 6 * i
-  front_length = columns_length (take i ns) ∙ ap (λ k. 6 * k) (length-take-le i ns (omega arith))
-
-  front_more : front ++ next ≡ flat_map column_of (take (i + 1) ns)
-  front_more = flat_map_more column_of [] (take i ns) (get_or ns i 0) ∙ ap (flat_map column_of) (sym (take_more ns i 0 within))
-
-  -- a column written in its place
-  put_column : put_mid (6 * i) (6 * i + 6 - 6 * i) (printed ns i) next ≡ printed ns (i + 1)
-  put_column =
-      let feeds : List ℕ = replicate (37 - 6 * (i + 1)) 10 in
-      let left : drop (6 * i + 6 - 6 * i) (drop (6 * i) (printed ns i)) ≡ feeds =
-      ap (drop (6 * i + 6 - 6 * i)) (drop_at front _ _ front_length)
-      ∙ drop-replicate (6 * i + 6 - 6 * i) (37 - 6 * i) 10
-      ∙ ap (λ k. replicate k 10) (omega arith) in
-      ap (λ l. l ++ (next ++ drop (6 * i + 6 - 6 * i) (drop (6 * i) (printed ns i)))) (take_at front _ _ front_length)
-      ∙ ap (λ l. front ++ (next ++ l)) left
-      ∙ sym (append_assoc front next feeds)
-      ∙ ap (λ l. l ++ feeds) front_more
-
-  pub printed_more : (bytes column : List ℕ) → bytes ≡ printed ns i → column ≡ next →
-      (put_mid (6 * i) (6 * i + 6 - 6 * i) bytes column ≡ printed ns (i + 1))
-      × (length (put_mid (6 * i) (6 * i + 6 - 6 * i) bytes column) ≡ 37)
-  printed_more bytes column before is =
-      let put : put_mid (6 * i) (6 * i + 6 - 6 * i) bytes column ≡ printed ns (i + 1) =
-      ap (put_mid (6 * i) (6 * i + 6 - 6 * i) bytes) is
-      ∙ ap (λ l. put_mid (6 * i) (6 * i + 6 - 6 * i) l next) before
-      ∙ put_column in
-      (put, ap length put ∙ printed_length ns (i + 1) (omega arith) (omega arith))
-
-pub row_printed : (r : Row) (ns : List ℕ) → ns ≡ row_numbers r → printed ns 6 ≡ row_bytes r
-unfolding row_bytes
-row_printed r ns is = ap (λ l. printed l 6) is
 
 digit_no_feed : (n w : ℕ) → eqb (digit_at n w) 10 ≡ false
 digit_no_feed n w =
@@ -87,3 +34,18 @@ columns_no_feed (n ∷ ns) =
 pub row_line : (r : Row) (rest : List ℕ) → lines_in (row_bytes r ++ rest) ≡ flat_map column_of (row_numbers r) ∷ lines_in rest
 unfolding row_bytes
 row_line r rest = lines_first (flat_map column_of (row_numbers r)) rest (columns_no_feed (row_numbers r))
+
+-- numbers printed one by one
+pub columns_each : (ns : List ℕ) (columns : List (List ℕ)) → length columns ≡ length ns →
+    ((k : ℕ) (d : List ℕ) → k < length ns → get_or columns k d ≡ column_of (get_or ns k 0)) → columns ≡ map column_of ns
+columns_each ns columns long each =
+    same_lists columns (map column_of ns) (long ∙ sym (length-map ns column_of))
+    (λ k d lt. each k d (omega arith) ∙ sym (get_or-map column_of ns k 0 d (omega arith)))
+
+-- a report with a row's columns and a line feed behind it
+pub row_printed : (r : Row) (columns : List (List ℕ)) (before between after : List ℕ) → columns ≡ map column_of (row_numbers r) →
+    between ≡ before ++ flat_map (λ x. x) columns → after ≡ between ++ 10 ∷ [] → after ≡ before ++ row_bytes r
+unfolding row_bytes
+row_printed r columns before between after are first last =
+    last ∙ ap (λ l. l ++ 10 ∷ []) first ∙ append_assoc before _ (10 ∷ [])
+    ∙ ap (λ l. before ++ (l ++ 10 ∷ [])) (ap (flat_map (λ x. x)) are ∙ flat_map-map (λ x. x) column_of (row_numbers r))

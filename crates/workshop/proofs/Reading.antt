@@ -1,10 +1,13 @@
 -- Numbers read from columns, a byte and a field at a time.
-use Rattle.std.proofs.Common.{◌≡◌, ℕ, suc, ◌+◌, ◌-◌, ◌*◌, ◌^◌, ◌<◌, ◌≤◌, true, false, leb, List, [], ◌∷◌, ◌++◌, length, get_or, take, drop, set, ℤ, None, Ok, Err, Result, sym, refl, ap, ◌∙◌, append_assoc, append-nil, pow-suc, add-one, arith, lit<}
+use Rattle.std.proofs.Common.{◌≡◌, ℕ, ◌+◌, ◌-◌, ◌*◌, ◌/◌, ◌%◌, ◌^◌, ◌≢◌, ◌<◌, ◌≤◌, true, false, leb, List, [], ◌∷◌, ◌++◌, length, get_or, take, drop, set, ℤ, None, Ok, Err, Result, sym, refl, ap, ◌∙◌, append_assoc, append-nil, pow-suc, add-one, arith, lit<}
 use native.Mathlib.Nat.{pow-le-pow_right}
-use Rattle.std.proofs.lemmas.List.{take_rest, take_all, take_more_set, at_drop_more}
+use Rattle.std.proofs.lemmas.List.{take_rest, take_all, drop_all, take_more_set, at_drop_more}
 use Rattle.std.proofs.lemmas.Bool.{eq-eqb, ne_eqb, leb-true, and_parts}
 use Rattle.workshop.specs.declared.columns.IllFormed.{IllFormed}
-use Rattle.workshop.specs.Columns.{behind_spaces, digits_after, field_at, is_digit, natural_in, negative, number_then, numbers_behind, numbers_in, signed_in}
+use Rattle.std.specs.Simd.{first_chunks}
+use Rattle.workshop.specs.declared.faults.Fault.TheVariants.{WrongLength}
+use Rattle.workshop.specs.Letters.{fields_read}
+use Rattle.workshop.specs.Columns.{fields_in, behind_spaces, digits_after, field_read, is_digit, natural_in, negative, number_then, numbers_from, numbers_of, signed_in}
 
 pub spaces_more : (bs : List ℕ) → get_or bs 0 0 ≡ 32 →
     behind_spaces (take (length bs - 1) (drop 1 bs)) ≡ behind_spaces bs
@@ -51,31 +54,37 @@ before_push : (ns : List ℤ) (n : ℤ) (r : Result (List ℤ) IllFormed) →
 before_push ns n (Ok ms) = ap Ok (sym (append_assoc ns (n ∷ []) ms))
 before_push ns n (Err e) = refl
 
-module _ (n : ℕ) (bs : List ℕ) where
+module _ (fs : List (List ℕ)) where
   -- what is left to read behind i fields, after the numbers of those
   abbrev pub left_after : ℕ → List ℤ → Result (List ℤ) IllFormed
-  left_after i ns = before (take i ns) (numbers_behind i (n - i) bs)
+  left_after i ns = before (take i ns) (numbers_from (i + 1) (drop i fs))
 
-  pub left_all : left_after 0 [] ≡ numbers_in n bs
-  left_all = before_none _ ∙ ap (λ k. numbers_behind 0 k bs) (omega arith)
+  pub left_all : (ns : List ℤ) → left_after 0 ns ≡ numbers_of fs
+  left_all ns = before_none _
 
-  pub left_none : (i : ℕ) (ns : List ℤ) → n ≤ i → length ns ≡ n → left_after i ns ≡ Ok ns
-  unfolding numbers_behind
+  pub left_none : (i : ℕ) (ns : List ℤ) → length fs ≤ i → length ns ≡ length fs → left_after i ns ≡ Ok ns
+  unfolding numbers_from
   left_none i ns le long =
-      let none : n - i ≡ 0 = omega arith in
-      rw (none, append-nil) (ap Ok (take_all i ns (omega arith)))
+      ap (λ gs. before (take i ns) (numbers_from (i + 1) gs)) (drop_all i fs le)
+      ∙ rw append-nil (ap Ok (take_all i ns (omega arith)))
 
-  module _ (i : ℕ) (ns : List ℤ) (lt : i < n) (o : Result ℤ IllFormed) (is : o ≡ field_at i bs) where
-    next : left_after i ns ≡ before (take i ns) (number_then o (numbers_behind (i + 1) (n - (i + 1)) bs))
-    unfolding numbers_behind
-    next =
-        let some : n - i ≡ suc (n - (i + 1)) = omega arith in
-        rw (some, is, add-one i)
+  module _ (i : ℕ) (ns : List ℤ) (lt : i < length fs) (o : Result ℤ IllFormed) (is : o ≡ field_read (i + 1) (get_or fs i [])) where
+    next : left_after i ns ≡ before (take i ns) (number_then o (numbers_from (i + 1 + 1) (drop (i + 1) fs)))
+    unfolding numbers_from
+    next = at_drop_more (λ gs. before (take i ns) (numbers_from (i + 1) gs)) fs i [] lt ∙ rw is
 
-  pub left_more : (i : ℕ) (ns : List ℤ) (x : ℤ) → i < n → length ns ≡ n → Ok x ≡ field_at i bs →
+  pub left_more : (i : ℕ) (ns : List ℤ) (x : ℤ) → i < length fs → length ns ≡ length fs → Ok x ≡ field_read (i + 1) (get_or fs i []) →
       left_after (i + 1) (set ns i x) ≡ left_after i ns
   left_more i ns x lt long is =
       rw (take_more_set ns i x (omega arith)) (sym (next i ns lt (Ok x) is ∙ before_push (take i ns) x _))
 
-  pub left_fails : (i : ℕ) (ns : List ℤ) (e : IllFormed) → i < n → Err e ≡ field_at i bs → left_after i ns ≡ Err e
-  left_fails i ns e lt is = next i ns lt (Err e) is
+  pub left_fails : (i : ℕ) (ns : List ℤ) (e : IllFormed) → i < length fs → length ns ≡ length fs → Err e ≡ field_read (i + 1) (get_or fs i []) → left_after i ns ≡ Err e
+  left_fails i ns e lt long is = next i ns lt (Err e) is
+
+-- chunks of six bytes and none behind them are the fields, where they are as many
+pub fields_whole : (n : ℕ) (bytes : List ℕ) → length bytes % 6 ≡ 0 → length bytes / 6 ≡ n → fields_read n bytes ≡ Ok (first_chunks 6 (length bytes / 6) bytes)
+unfolding fields_in
+fields_whole n bytes none many = rw (eq-eqb (length bytes) (6 * n) (omega arith), many)
+
+pub fields_wrong : (n : ℕ) (bytes : List ℕ) → (length bytes / 6 ≢ n) → fields_read n bytes ≡ Err WrongLength
+fields_wrong n bytes other = rw (ne_eqb (length bytes) (6 * n) (λ e. other (omega arith)))

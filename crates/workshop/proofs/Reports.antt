@@ -1,34 +1,44 @@
--- A line read, and the rows that are left after it.
-use Rattle.std.proofs.Common.{◌≡◌, ℕ, suc, ◌+◌, ◌-◌, List, [], ◌∷◌, ◌++◌, length, get_or, take, drop, sym, refl, ap, ◌∙◌, append_assoc, arith, take_all}
-use Rattle.std.specs.List.{flat_map}
-use Rattle.workshop.specs.declared.rows.Row.{Row}
+-- The rows of lines that are taken one by one.
+use Rattle.std.proofs.Common.{◌≡◌, ℕ, ◌+◌, ◌<◌, eqb, List, ◌++◌, length, get_or, drop, sym, ap, ◌∙◌, append_assoc, append-nil, arith}
+use Rattle.std.specs.List.{enumerate_from, flat_map, slice_split}
+use Rattle.std.proofs.lemmas.List.{at_drop_more, at_drop_all}
+use Rattle.std.proofs.lemmas.List.FromFn.{get_or-enumerate_from, length-enumerate_from}
 use Rattle.workshop.specs.Acts.{Done}
-use Rattle.workshop.specs.Letters.{letter_of}
-use Rattle.workshop.specs.Lines.{lines_in}
+use Rattle.workshop.specs.Lines.{ended, lines_in}
 use Rattle.workshop.specs.Rows.{row_bytes}
-use Rattle.workshop.specs.Stages.{State, Step, letter_step, step}
+use Rattle.workshop.specs.Stages.{State, Step, start, step}
 use Rattle.workshop.specs.Report.{row_of, rows_from}
+use Rattle.workshop.proofs.Splitting.{lines_split}
 
--- a line by its first byte and the columns behind it
-pub step_letter : (s : State) (line : List ℕ) →
-    letter_step s (letter_of (get_or line 0 0)) (take (length line - 1) (drop 1 line)) ≡ step s line
-step_letter s [] = refl
-step_letter s (b ∷ columns) =
-    ap (letter_step s (letter_of b)) (take_all (suc (length columns) - 1) columns (omega arith))
+module _ (text : List ℕ) where
+  abbrev lines : List (List ℕ)
+  lines = slice_split (λ b. eqb b 10) text
 
-module _ (before after : List ℕ) (row : Row) (n : ℕ) (s t : State) (d : Done) (text rest line whole : List ℕ) where
-  abbrev rows_left : State → List ℕ
-  rows_left u = flat_map row_bytes (rows_from (n + 1 + 1) u (lines_in rest))
+  -- the rows from a state on of the lines behind the first k
+  abbrev pub rows_left : ℕ → State → List ℕ
+  rows_left k s = flat_map row_bytes (rows_from (k + 1) s (drop k lines))
 
-  pub row_more : after ≡ before ++ row_bytes row → row ≡ row_of (n + 1) d → (t, d) ≡ step s line → lines_in text ≡ line ∷ lines_in rest →
-      before ++ flat_map row_bytes (rows_from (n + 1) s (lines_in text)) ≡ whole →
-      after ++ flat_map row_bytes (rows_from (n + 1 + 1) t (lines_in rest)) ≡ whole
-  row_more printed is stepped split inv =
-      let t-is : t ≡ (step s line).0 = ap (λ (p : Step). p.0) stepped in
-      let d-is : d ≡ (step s line).1 = ap (λ (p : Step). p.1) stepped in
-      ap (λ l. l ++ rows_left t) printed
-      ∙ append_assoc before (row_bytes row) (rows_left t)
-      ∙ ap (λ r. before ++ (row_bytes r ++ rows_left t)) (is ∙ ap (row_of (n + 1)) d-is)
-      ∙ ap (λ u. before ++ (row_bytes (row_of (n + 1) (step s line).1) ++ rows_left u)) t-is
-      ∙ sym (ap (λ ls. before ++ flat_map row_bytes (rows_from (n + 1) s ls)) split)
-      ∙ inv
+  module _ (k : ℕ) (s : State) (before whole : List ℕ) (left : before ++ rows_left k s ≡ whole) where
+    pub row_more : (i : ℕ) (line : List ℕ) (t : State) (d : Done) (after : List ℕ) →
+        (k < length (enumerate_from 0 lines)) × ((i, line) ≡ get_or (enumerate_from 0 lines) k (i, line)) →
+        (t, d) ≡ step s line → after ≡ before ++ row_bytes (row_of (i + 1) d) → after ++ rows_left (k + 1) t ≡ whole
+    row_more i line t d after turn stepped printed =
+        let more : k < length lines = omega (arith, turn.0, length-enumerate_from 0 lines) in
+        let here : (i, line) ≡ (0 + k, get_or lines k line) = turn.1 ∙ get_or-enumerate_from 0 lines k (i, line) more in
+        let i-is : i ≡ k = omega (arith, ap (λ (p : ℕ × List ℕ). p.0) here) in
+        let row : Done → List ℕ = λ e. row_bytes (row_of (k + 1) e) in
+        ap (λ l. l ++ rows_left (k + 1) t) (printed ∙ ap (λ j. before ++ row_bytes (row_of (j + 1) d)) i-is)
+        ∙ append_assoc before (row d) (rows_left (k + 1) t)
+        ∙ ap (λ (p : Step). before ++ (row p.1 ++ rows_left (k + 1) p.0)) (stepped ∙ ap (λ (p : ℕ × List ℕ). step s p.1) here)
+        ∙ sym (ap (λ l. before ++ l) (at_drop_more (λ ls. flat_map row_bytes (rows_from (k + 1) s ls)) lines k line more))
+        ∙ left
+
+    pub rows_end : k ≡ length (enumerate_from 0 lines) → before ≡ whole
+    rows_end end =
+        sym (append-nil before)
+        ∙ sym (ap (λ l. before ++ l) (at_drop_all (λ ls. flat_map row_bytes (rows_from (k + 1) s ls)) lines k (omega (arith, end, length-enumerate_from 0 lines))))
+        ∙ left
+
+  -- at first all are left
+  pub rows_all : rows_left 0 start ≡ flat_map row_bytes (rows_from 1 start (lines_in (ended text)))
+  rows_all = ap (λ ls. flat_map row_bytes (rows_from 1 start ls)) (sym (lines_split text))

@@ -1,5 +1,5 @@
 -- The shape of a report.
-use Rattle.std.proofs.Common.{◌≡◌, ℕ, suc, ◌+◌, ltb, List, [], ◌∷◌, ◌++◌, map, length, take, Ok, Err, refl, ap, ◌∙◌, inl, inr, arith}
+use Rattle.std.proofs.Common.{◌≡◌, ℕ, suc, ◌+◌, ltb, List, [], ◌∷◌, ◌++◌, map, length, Ok, Err, refl, ap, ◌∙◌, inl, inr, arith}
 use Rattle.std.specs.List.{flat_map, AllByRecursion}
 use Rattle.std.proofs.lemmas.Bool.{cases_Bool, ltb-true, ltb-false}
 use Rattle.workshop.specs.declared.rows.Row.{Row}
@@ -7,7 +7,7 @@ use Rattle.workshop.specs.Acts.{Done}
 use Rattle.workshop.specs.Columns.{column_of}
 use Rattle.workshop.specs.Lines.{lines_in, line_feeds, ends_line, ended}
 use Rattle.workshop.specs.Rows.{row_numbers, row_bytes}
-use Rattle.workshop.specs.Report.{file_gate, row_of, rows_from, gated_rows, report_rows}
+use Rattle.workshop.specs.Report.{file_gate, rows_from, gated_rows, report_rows}
 use Rattle.workshop.specs.Shape.{Answerable, NumberedFrom, ReportsShaped}
 use Rattle.workshop.specs.Stages.{State, start, step}
 use Rattle.workshop.proofs.Printing.{row_line}
@@ -38,13 +38,9 @@ rows_per_line : (n : ℕ) (s : State) (ls : List (List ℕ)) → length (rows_fr
 rows_per_line n s [] = refl
 rows_per_line n s (l ∷ ls) = ap suc (rows_per_line (n + 1) (step s l).0 ls)
 
-row_number : (n : ℕ) (d : Done) → take 6 (columns_of (row_of n d)) ≡ column_of n
-row_number n (Ok x) = refl
-row_number n (Err f) = refl
-
 rows_numbered : (n : ℕ) (s : State) (ls : List (List ℕ)) → NumberedFrom n (map columns_of (rows_from n s ls))
 rows_numbered n s [] = tt
-rows_numbered n s (l ∷ ls) = (row_number n (step s l).1, rows_numbered (n + 1) (step s l).0 ls)
+rows_numbered n s (l ∷ ls) = (refl, rows_numbered (n + 1) (step s l).0 ls)
 
 answered : (file : List ℕ) → Answerable file → file_gate file ≡ Ok tt
 answered file (few, whole) =
@@ -64,7 +60,7 @@ module _ (file : List ℕ) where
   )
   by_gate (Err f) to from = (
     λ yes. let z : ◌≡◌ {A = ℕ} 0 1 = cc (from yes) in absurd (omega arith),
-    λ _. (refl, (row_number 0 (Err f), tt)),
+    λ _. (refl, (refl, tt)),
   )
 
   passed : file_gate file ≡ Ok tt → Answerable file

@@ -1,8 +1,9 @@
 -- Text split at its line feeds.
-use Rattle.std.proofs.Common.{◌≡◌, ℕ, suc, ◌+◌, ◌<◌, true, false, cond, eqb, List, [], ◌∷◌, ◌++◌, length, get_or, take, drop, sym, refl, ap, ◌∙◌, arith, take-append-drop}
-use Rattle.std.proofs.lemmas.List.{take_more, drop_more, nil_from_length}
-use Rattle.std.proofs.lemmas.Bool.{ne_eqb}
-use Rattle.workshop.specs.Lines.{line_feeds, line_with, lines_in}
+use Rattle.std.proofs.Common.{◌≡◌, ℕ, suc, ◌+◌, ◌≤◌, true, false, cond, eqb, List, [], ◌∷◌, ◌++◌, length, refl, ap, ◌∙◌, arith}
+use Rattle.std.proofs.lemmas.List.{nil_from_length}
+use Rattle.std.specs.List.{slice_split, onto_first}
+use Rattle.std.proofs.lemmas.List.Splits.{length-slice_split}
+use Rattle.workshop.specs.Lines.{ended, line_feeds, line_with, lines_in}
 
 -- each line has one line feed
 pub lines_count : (bs : List ℕ) → length (lines_in bs) ≡ line_feeds bs
@@ -37,14 +38,17 @@ lines_first (b ∷ bs) rest =
       | false ↦ λ none. ap (line_with b) (lines_first bs rest none)
     ]
 
-module _ (bs : List ℕ) (i : ℕ) (within : i < length bs) (before : line_feeds (take i bs) ≡ 0) where
-  pub feeds_more : (get_or bs i 0 ≡ 10 → ⊥) → line_feeds (take (i + 1) bs) ≡ 0
-  feeds_more other =
-      ap line_feeds (take_more bs i 0 within) ∙ feeds_append (take i bs) _ ∙ rw (before, ne_eqb _ 10 other)
-
-  pub feed_parts : get_or bs i 0 ≡ 10 → bs ≡ take i bs ++ (10 ∷ drop (i + 1) bs)
-  feed_parts is =
-      sym (take-append-drop i bs) ∙ ap (λ ds. take i bs ++ ds) (drop_more bs i 0 within) ∙ rw is
-
-  pub feed_lines : get_or bs i 0 ≡ 10 → lines_in bs ≡ take i bs ∷ lines_in (drop (i + 1) bs)
-  feed_lines is = ap lines_in (feed_parts is) ∙ lines_first _ _ before
+-- the parts between line feeds are the lines, where one more line feed ends the last
+pub lines_split : (bs : List ℕ) → lines_in (ended bs) ≡ slice_split (λ b. eqb b 10) bs
+lines_split [] = refl
+lines_split (b ∷ bs) =
+    elim (eqb b 10) as (λ v. cond v ([] ∷ lines_in (ended bs)) (line_with b (lines_in (ended bs))) ≡ cond v ([] ∷ slice_split (λ c. eqb c 10) bs) (onto_first b (slice_split (λ c. eqb c 10) bs))) [
+      | true ↦ ap (λ ls. [] ∷ ls) (lines_split bs)
+      | false ↦
+          ap (line_with b) (lines_split bs)
+          ∙ onto_some b (slice_split (λ c. eqb c 10) bs) (omega (arith, length-slice_split (λ c. eqb c 10) bs))
+    ]
+  where
+    onto_some : (b : ℕ) (ls : List (List ℕ)) → 1 ≤ length ls → line_with b ls ≡ onto_first b ls
+    onto_some b [] some = absurd (omega arith)
+    onto_some b (l ∷ ls) some = refl

@@ -1,7 +1,8 @@
 -- Numbers in columns: a field is six bytes, a number stands at its right behind spaces.
-use Rattle.std.specs.Prelude.{◌≡◌, ℕ, zero, suc, ◌+◌, ◌-◌, ◌*◌, ◌/◌, ◌%◌, ◌≤◌, Bool, cond, ◌&&◌, List, [], ◌∷◌, map, length, ℤ, pos, neg_ℤ, Some, None, Ok, Err, Option, Result, ◌==◌, nat_le, nat_lt}
+use Rattle.std.specs.Prelude.{◌≡◌, ℕ, ◌+◌, ◌-◌, ◌*◌, ◌/◌, ◌%◌, ◌≤◌, Bool, cond, ◌&&◌, List, [], ◌∷◌, map, length, ℤ, pos, neg_ℤ, Some, None, Ok, Err, Option, Result, ◌==◌, nat_le, nat_lt}
 use Rattle.std.specs.Option.{option_map, ok_or}
-use Rattle.std.specs.List.{between, flat_map, AllByRecursion}
+use Rattle.std.specs.List.{flat_map, AllByRecursion}
+use Rattle.std.specs.Simd.{first_chunks}
 use Rattle.workshop.specs.declared.columns.IllFormed.{IllFormed}
 
 -- the bytes behind the spaces in front
@@ -41,9 +42,13 @@ signed_in (b ∷ bs) = cond (b == 45) (negative (natural_in bs)) (option_map pos
 abbrev pub number_in : List ℕ → Option ℤ
 number_in bytes = signed_in (behind_spaces bytes)
 
--- the number of the field behind i others; or that the field, counted from 1, is ill-formed
-abbrev pub field_at : ℕ → List ℕ → Result ℤ IllFormed
-field_at i bytes = ok_or (number_in (between (6 * i) (6 * i + 6) bytes)) (record { field = i + 1 })
+-- so many fields side by side, six bytes each
+unfoldable pub fields_in : ℕ → List ℕ → List (List ℕ)
+fields_in n bytes = first_chunks 6 n bytes
+
+-- the number of field i; or that the field is ill-formed
+abbrev pub field_read : ℕ → List ℕ → Result ℤ IllFormed
+field_read i field = ok_or (number_in field) (record { field = i })
 
 -- a number before those behind it
 abbrev pub number_then : Result ℤ IllFormed → Result (List ℤ) IllFormed → Result (List ℤ) IllFormed
@@ -51,13 +56,16 @@ number_then (Err e) rest = Err e
 number_then (Ok n) (Err e) = Err e
 number_then (Ok n) (Ok ns) = Ok (n ∷ ns)
 
--- the numbers of n fields behind i others; or the first field that is ill-formed
-unfoldable pub numbers_behind : ℕ → ℕ → List ℕ → Result (List ℤ) IllFormed
-numbers_behind i zero bytes = Ok []
-numbers_behind i (suc n) bytes = number_then (field_at i bytes) (numbers_behind (suc i) n bytes)
+-- the numbers of fields that are counted from i on; or the first field that is ill-formed
+unfoldable pub numbers_from : ℕ → List (List ℕ) → Result (List ℤ) IllFormed
+numbers_from i [] = Ok []
+numbers_from i (field ∷ fields) = number_then (field_read i field) (numbers_from (i + 1) fields)
+
+abbrev pub numbers_of : List (List ℕ) → Result (List ℤ) IllFormed
+numbers_of fields = numbers_from 1 fields
 
 abbrev pub numbers_in : ℕ → List ℕ → Result (List ℤ) IllFormed
-numbers_in n bytes = numbers_behind 0 n bytes
+numbers_in n bytes = numbers_of (fields_in n bytes)
 
 -- the digit of a weight, a space where the number does not reach it
 abbrev pub digit_at : ℕ → ℕ → ℕ

@@ -4,7 +4,6 @@ use Rattle.std.specs.List.{flat_map}
 use Rattle.workshop.specs.declared.faults.Fault.TheVariants.{TooLong, Unfinished}
 use Rattle.workshop.specs.declared.rows.Row.{Row}
 use Rattle.workshop.specs.Acts.{Done}
-use Rattle.workshop.specs.Faults.{fault_number, fault_details, no_details}
 use Rattle.workshop.specs.Lines.{lines_in, ends_line}
 use Rattle.workshop.specs.Rows.{row_bytes}
 use Rattle.workshop.specs.Stages.{State, start, step}
@@ -15,8 +14,7 @@ file_gate bytes = cond (nat_lt 65536 (length bytes)) (Err TooLong) (cond (ends_l
 
 -- the row of a line
 abbrev pub row_of : ℕ → Done → Row
-row_of n (Ok x) = record { line = n; answer = 0; details = no_details; sheet = 0 }
-row_of n (Err f) = record { line = n; answer = fault_number f; details = fault_details f; sheet = 0 }
+row_of n d = record { line = n; answer = d }
 
 -- the rows of lines that are numbered from n on
 abbrev pub rows_from : ℕ → State → List (List ℕ) → List Row

@@ -1,17 +1,15 @@
 -- What a line does: the stage that the file has come to, and the letter, decide together.
-use Rattle.std.specs.Prelude.{ℕ, cond, List, [], ◌∷◌, Some, None, Ok, Err, Option, Result}
+use Rattle.std.specs.Prelude.{ℕ, List, Ok, Err, Result}
 use Rattle.parts.specs.declared.annexes.Rules.{Rules}
 use Rattle.book.specs.declared.tables.Tables.{Tables}
 use Rattle.book.specs.declared.tables.Places.{Places}
 use Rattle.book.specs.Tables.{empty_tables}
 use Rattle.workshop.specs.declared.faults.Fault.{Fault}
-use Rattle.workshop.specs.declared.faults.Fault.TheVariants.{NoLetter, WrongLength, WrongStage}
-use Rattle.workshop.specs.declared.letters.Letter.{Letter}
-use Rattle.workshop.specs.declared.letters.Letter.TheVariants.{Annex, Plate, BoltGroup, Weld, Strike, SetOut, Load, Withdraw, Verdict}
+use Rattle.workshop.specs.declared.faults.Fault.TheVariants.{WrongStage}
 use Rattle.workshop.specs.declared.stages.Stage.{Stage}
 use Rattle.workshop.specs.declared.stages.Stage.TheVariants.{Start, Drafting}
-use Rattle.workshop.specs.Columns.{numbers_in}
-use Rattle.workshop.specs.Letters.{letter_of, has_columns}
+use Rattle.workshop.specs.Columns.{numbers_of}
+use Rattle.workshop.specs.Letters.{Letter, annex, plate, bolt_group, weld, strike, set_out, load, withdraw, verdict, Asked, line_read}
 use Rattle.workshop.specs.Acts.{Done, beginning, plate_act, plate_after, group_act, group_after, weld_act, weld_after, strike_act, strike_after}
 
 -- how far a file has come, and what its book then holds
@@ -44,32 +42,30 @@ abbrev pub misplaced : State → Step
 misplaced s = (s, Err WrongStage)
 
 -- until an A is done only A does something, then P, B, W and X
-abbrev pub act_step : State → Letter → List ℕ → Step
-act_step start Annex columns = begin_step (beginning (numbers_in 3 columns))
-act_step start Plate columns = misplaced start
-act_step start BoltGroup columns = misplaced start
-act_step start Weld columns = misplaced start
-act_step start Strike columns = misplaced start
-act_step start SetOut columns = misplaced start
-act_step start Load columns = misplaced start
-act_step start Withdraw columns = misplaced start
-act_step start Verdict columns = misplaced start
-act_step (draft a t) Annex columns = misplaced (draft a t)
-act_step (draft a t) Plate columns = (draft a (plate_after t (numbers_in 3 columns)), plate_act t (numbers_in 3 columns))
-act_step (draft a t) BoltGroup columns = (draft a (group_after t (numbers_in 11 columns)), group_act t (numbers_in 11 columns))
-act_step (draft a t) Weld columns = (draft a (weld_after t (numbers_in 5 columns)), weld_act t (numbers_in 5 columns))
-act_step (draft a t) Strike columns = (draft a (strike_after t (numbers_in 1 columns)), strike_act t (numbers_in 1 columns))
-act_step (draft a t) SetOut columns = misplaced (draft a t)
-act_step (draft a t) Load columns = misplaced (draft a t)
-act_step (draft a t) Withdraw columns = misplaced (draft a t)
-act_step (draft a t) Verdict columns = misplaced (draft a t)
+abbrev pub act_step : State → Letter → List (List ℕ) → Step
+act_step start annex fs = begin_step (beginning (numbers_of fs))
+act_step start plate fs = misplaced start
+act_step start bolt_group fs = misplaced start
+act_step start weld fs = misplaced start
+act_step start strike fs = misplaced start
+act_step start set_out fs = misplaced start
+act_step start load fs = misplaced start
+act_step start withdraw fs = misplaced start
+act_step start verdict fs = misplaced start
+act_step (draft a t) annex fs = misplaced (draft a t)
+act_step (draft a t) plate fs = (draft a (plate_after t (numbers_of fs)), plate_act t (numbers_of fs))
+act_step (draft a t) bolt_group fs = (draft a (group_after t (numbers_of fs)), group_act t (numbers_of fs))
+act_step (draft a t) weld fs = (draft a (weld_after t (numbers_of fs)), weld_act t (numbers_of fs))
+act_step (draft a t) strike fs = (draft a (strike_after t (numbers_of fs)), strike_act t (numbers_of fs))
+act_step (draft a t) set_out fs = misplaced (draft a t)
+act_step (draft a t) load fs = misplaced (draft a t)
+act_step (draft a t) withdraw fs = misplaced (draft a t)
+act_step (draft a t) verdict fs = misplaced (draft a t)
 
--- a letter asks for its number of fields, six columns each
-abbrev pub letter_step : State → Option Letter → List ℕ → Step
-letter_step s None columns = (s, Err NoLetter)
-letter_step s (Some l) columns = cond (has_columns l columns) (act_step s l columns) (s, Err WrongLength)
+-- a line that is not read is answered with its fault
+abbrev pub asked_step : State → Result Asked Fault → Step
+asked_step s (Err f) = (s, Err f)
+asked_step s (Ok asked) = act_step s asked.0 asked.1
 
--- a line is its letter and the columns behind it
 abbrev pub step : State → List ℕ → Step
-step s [] = (s, Err NoLetter)
-step s (b ∷ columns) = letter_step s (letter_of b) columns
+step s line = asked_step s (line_read line)

@@ -1,41 +1,32 @@
 // Numbers in columns of six bytes, read and printed.
-ghost use Rattle.std.specs.Prelude.{◌≡◌, ◌+◌, ◌*◌, ◌<◌, ◌≤◌, length, IfSome, Some};
-ghost use Rattle.workshop.specs.Columns.{behind_spaces, column_of, digit_at, digits_after, field_at, natural_in, negative, number_in, numbers_in, signed_in};
+ghost use Rattle.std.specs.Prelude.{◌≡◌, ◌<◌, ◌≤◌, length, IfSome, Some};
+ghost use Rattle.workshop.specs.Columns.{behind_spaces, column_of, digit_at, digits_after, natural_in, negative, number_in, numbers_of, signed_in};
 
 // The bytes of a field.
 pub(crate) const WIDTH: usize = 6;
 
+// A field of a line, or a column of the report.
+pub type Field = [u8; WIDTH];
+
 // The first field, counted from 1, that holds no number.
-#[derive(Clone, Copy)]
+#[derive(Debug, Clone, Copy, PartialEq, Eq)]
 pub struct IllFormed {
     pub field: u8,
 }
 
-// The numbers of N fields side by side.
-pub(crate) fn numbers<const N: usize>(columns: &[u8]) -> Result<[i32; N], IllFormed>
-    requires { (length columns.now ≡ 6 * N) × (N ≤ 11) }
-    ensures { result ≡ numbers_in N columns.now }
+// Tried and not proved: `try_from_fn`, whose contract does not say which of several errors comes back.
+pub(crate) fn numbers<const N: usize>(fields: &[Field; N]) -> Result<[i32; N], IllFormed>
+    requires { N < 256 }
+    ensures { result ≡ numbers_of fields.now }
 {
     let mut numbers = [0; N];
-    for i in 0..N {
-        numbers[i] = number_at(columns, i)?;
+    for (i, field) in fields.iter().enumerate() {
+        numbers[i] = number(field).ok_or(IllFormed { field: i as u8 + 1 })?;
     }
     Ok(numbers)
 }
 
-// The number of the field behind so many others.
-fn number_at(columns: &[u8], others: usize) -> Result<i32, IllFormed>
-    requires { (others ≤ 10) × (6 * others + 6 ≤ length columns.now) }
-    ensures { result ≡ field_at others columns.now }
-{
-    let field = &columns[WIDTH * others..WIDTH * others + WIDTH];
-    number(field).ok_or(IllFormed {
-        field: others as u8 + 1,
-    })
-}
-
-fn number(field: &[u8]) -> Option<i32>
-    requires { length field.now ≤ 6 }
+fn number(field: &Field) -> Option<i32>
     ensures { result ≡ number_in field.now }
 {
     signed(skip_spaces(field))
@@ -73,7 +64,7 @@ fn negated(size: u32) -> Option<i32>
     }
 }
 
-// A zero stands alone.
+// By hand: `parse` takes a plus sign and leading zeros. A zero stands alone.
 fn natural(digits: &[u8]) -> Option<u32>
     requires { length digits.now ≤ 6 }
     ensures read { result ≡ natural_in digits.now }
@@ -103,7 +94,8 @@ fn value(digits: &[u8]) -> Option<u32>
 }
 
 // The number in decimal, at the right behind spaces.
-pub(crate) fn column(number: u32) -> [u8; WIDTH]
+// By hand: `{:>6}` pads and never cuts, and a column has six bytes whatever the number.
+pub(crate) fn column(number: u32) -> Field
     ensures { result ≡ column_of number }
 {
     [

@@ -1,14 +1,13 @@
-ghost use Rattle.std.specs.Prelude.{◌≡◌, ◌≤◌, [], ◌++◌, length, IfOk, OnOk};
+ghost use Rattle.std.specs.Prelude.{◌≡◌, ◌<◌, [], ◌∷◌, ◌++◌, length, Ok, Err, IfOk, OnOk, MatchResult};
 ghost use Rattle.std.specs.List.{flat_map};
 ghost use Rattle.workshop.specs.Rows.{row_bytes};
 ghost use Rattle.workshop.specs.Columns.{ColumnsAgree, ColumnsSideBySide};
-ghost use Rattle.workshop.specs.Lines.{lines_in};
+ghost use Rattle.workshop.specs.Lines.{ended, lines_in};
 ghost use Rattle.workshop.specs.Shape.{ReportsShaped};
 ghost use Rattle.workshop.specs.Stages.{start};
-ghost use Rattle.workshop.specs.Report.{row_of, file_gate, rows_from, report_of};
+ghost use Rattle.workshop.specs.Report.{file_gate, rows_from, report_of};
 
 use crate::faults::Fault;
-use crate::lines::{first_line, is_whole};
 use crate::rows::Row;
 use crate::stages::Stage;
 use std::alloc::{AllocError, Global};
@@ -24,9 +23,13 @@ pub fn report(heap: Global, file: &[u8]) -> Result<Vec<u8>, AllocError>
     ensures lines { ColumnsSideBySide }
 {
     let mut report = begun_report(heap);
-    match check_file(file) {
-        Ok(()) => print_lines(file, &mut report)?,
-        Err(fault) => answered(0, Err(fault)).print(&mut report)?,
+    match checked(file) {
+        Ok(text) => print_lines(text, &mut report)?,
+        Err(fault) => Row {
+            line: 0,
+            answer: Err(fault),
+        }
+        .print(&mut report)?,
     }
     Ok(report)
 }
@@ -41,48 +44,33 @@ fn begun_report(heap: Global) -> Vec<u8>
     Vec::new(heap)
 }
 
-fn check_file(file: &[u8]) -> Result<(), Fault>
-    ensures { result ≡ file_gate file.now }
+// The file's text without its last line feed, or why it is not read.
+fn checked(file: &[u8]) -> Result<&[u8], Fault>
+    ensures gate { MatchResult result (λ t. file_gate file.now ≡ Ok tt) (λ f. file_gate file.now ≡ Err f) }
+    ensures text { IfOk result (λ t. file.now ≡ ended t.now) }
+    ensures short { IfOk result (λ t. length t.now < 65536) }
 {
-    if file.len() > LONGEST {
-        Err(Fault::TooLong)
-    } else if is_whole(file) {
-        Ok(())
-    } else {
-        Err(Fault::Unfinished)
+    match file {
+        _ if file.len() > LONGEST => Err(Fault::TooLong),
+        [text @ .., b'\n'] => Ok(text),
+        _ => Err(Fault::Unfinished),
     }
 }
 
-// The row of a line.
-fn answered(number: u32, answer: Result<(), Fault>) -> Row
-    ensures { result ≡ row_of number answer }
-{
-    let (answer, details) = match answer {
-        Ok(()) => (0, [0, 0, 0]),
-        Err(fault) => (fault.number(), fault.details()),
-    };
-    Row {
-        line: number,
-        answer,
-        details,
-        sheet: 0,
-    }
-}
-
-// A row for each line of the file.
-fn print_lines(file: &[u8], report: &mut Vec<u8>) -> Result<(), AllocError>
-    requires { length file.now ≤ 65536 }
-    ensures { OnOk result (report.new.items ≡ report.old.items ++ flat_map row_bytes (rows_from 1 start (lines_in file.now))) }
+// A row for each line of the text.
+fn print_lines(text: &[u8], report: &mut Vec<u8>) -> Result<(), AllocError>
+    requires { length text.now < 65536 }
+    ensures { OnOk result (report.new.items ≡ report.old.items ++ flat_map row_bytes (rows_from 1 start (lines_in (ended text.now)))) }
 {
     let mut stage = Stage::Start;
-    let mut number = 0;
-    let mut text = file;
-    while let Some((line, rest)) = first_line(text) {
+    for (i, line) in text.split(|byte| *byte == b'\n').enumerate() {
         let (next, answer) = stage.answer(line);
         stage = next;
-        number += 1;
-        answered(number, answer).print(report)?;
-        text = rest;
+        Row {
+            line: i as u32 + 1,
+            answer,
+        }
+        .print(report)?;
     }
     Ok(())
 }

@@ -5,7 +5,6 @@ mod acts;
 mod columns;
 pub mod faults;
 pub mod file;
-mod letters;
-mod lines;
+mod line;
 mod rows;
 mod stages;

@@ -1,54 +1,50 @@
 // Rows of the report.
-ghost use Rattle.std.specs.Prelude.{◌≡◌, ◌++◌, is_ok, if◌then◌else◌};
+ghost use Rattle.std.specs.Prelude.{◌≡◌, ◌++◌, map, OnOk};
+ghost use Rattle.workshop.specs.Columns.{column_of};
 ghost use Rattle.workshop.specs.Rows.{row_bytes, row_numbers};
 
-use crate::columns::{WIDTH, column};
+use crate::columns::{Field, column};
+use crate::faults::Fault;
 use std::alloc::AllocError;
-
-const COLUMNS: usize = 6;
-
-const LENGTH: usize = COLUMNS * WIDTH + 1;
 
 // What was answered to a line of the file.
 #[derive(Clone, Copy)]
 pub struct Row {
     pub line: u32,
-    pub answer: u8,
-    pub details: [u16; 3],
-    pub sheet: u16,
+    pub answer: Result<(), Fault>,
 }
 
 impl Row {
-    // Adds the row to the report, whole or not at all.
+    // Adds six columns and a line feed to the report.
     pub(crate) fn print(&self, report: &mut Vec<u8>) -> Result<(), AllocError>
-        ensures { report.new.items ≡ (if is_ok result then report.old.items ++ row_bytes self.now else report.old.items) }
+        ensures { OnOk result (report.new.items ≡ report.old.items ++ row_bytes self.now) }
     {
-        report.extend_from_slice(&self.bytes())
+        report.extend_from_slice(self.columns().as_flattened())?;
+        report.push(b'\n')?;
+        Ok(())
     }
 
-    // Six columns and a line feed.
-    fn bytes(&self) -> [u8; LENGTH]
-        ensures { result ≡ row_bytes self.now }
+    fn columns(&self) -> [Field; 6]
+        ensures { result ≡ map column_of (row_numbers self.now) }
     {
-        let numbers = self.numbers();
-        let mut bytes = [b'\n'; LENGTH];
-        for i in 0..COLUMNS {
-            bytes[WIDTH * i..WIDTH * i + WIDTH].copy_from_slice(&column(numbers[i]));
-        }
-        bytes
+        self.numbers().map(column)
     }
 
-    fn numbers(&self) -> [u32; COLUMNS]
+    // The sheet comes last, and no answer has one yet.
+    fn numbers(&self) -> [u32; 6]
         ensures { result ≡ row_numbers self.now }
     {
-        let [first, second, third] = self.details;
+        let (answer, [first, second, third]) = match self.answer {
+            Ok(()) => (0, [0; 3]),
+            Err(fault) => (fault.number(), fault.details()),
+        };
         [
             self.line,
-            self.answer as u32,
-            first as u32,
-            second as u32,
-            third as u32,
-            self.sheet as u32,
+            answer.into(),
+            first.into(),
+            second.into(),
+            third.into(),
+            0,
         ]
     }
 }

@@ -1,11 +1,11 @@
-ghost use Rattle.std.specs.Prelude.{◌≡◌, true};
-ghost use Rattle.workshop.specs.Letters.{has_columns};
+ghost use Rattle.std.specs.Prelude.{◌≡◌};
 ghost use Rattle.book.specs.Tables.{empty_tables};
-ghost use Rattle.workshop.specs.Stages.{all_places, state_of, outcome, step, letter_step, act_step};
+ghost use Rattle.workshop.specs.Letters.{asked};
+ghost use Rattle.workshop.specs.Stages.{all_places, state_of, outcome, step, act_step};
 
 use crate::acts::{add_bolt_group, add_plate, add_weld, chosen_annex, strike};
 use crate::faults::Fault;
-use crate::letters::Letter;
+use crate::line::Line;
 use book::drafting::Drafting;
 use book::tables::Places;
 use parts::annexes::Rules;
@@ -35,56 +35,32 @@ fn begun(choice: Rules) -> Drafting<Rules>
 }
 
 impl Stage {
-    // What a line does, and what is answered to it.
+    // What a line does, and what is answered to it. The stage is moved on: one that is left cannot be used again.
     pub(crate) fn answer(self, line: &[u8]) -> (Stage, Result<(), Fault>)
         ensures { outcome result ≡ step (state_of self) line.now }
     {
-        match line {
-            [] => (self, Err(Fault::NoLetter)),
-            [letter, columns @ ..] => self.answer_letter(
-                Letter::read(char::from(*letter)),
-                columns,
-            ),
-        }
+        let mut stage = self;
+        let answer = match Line::read(line) {
+            Ok(line) => stage.act(line),
+            Err(fault) => Err(fault),
+        };
+        (stage, answer)
     }
 
-    fn answer_letter(self, letter: Option<Letter>, columns: &[u8]) -> (Stage, Result<(), Fault>)
-        ensures { outcome result ≡ letter_step (state_of self) letter columns.now }
+    // A rule of the project: the stage and the letter are matched together.
+    fn act(&mut self, line: Line) -> Result<(), Fault>
+        ensures { (state_of self.new, result) ≡ act_step (state_of self.old) (asked line.entry).0 (asked line.entry).1 }
     {
-        match letter {
-            None => (self, Err(Fault::NoLetter)),
-            Some(letter) if letter.fits(columns) => self.act(letter, columns),
-            Some(_) => (self, Err(Fault::WrongLength)),
-        }
-    }
-
-    // The stage and the letter together decide.
-    fn act(self, letter: Letter, columns: &[u8]) -> (Stage, Result<(), Fault>)
-        requires { has_columns letter columns.now ≡ true }
-        ensures { outcome result ≡ act_step (state_of self) letter columns.now }
-    {
-        match (self, letter) {
-            (Stage::Start, Letter::Annex) => match chosen_annex(columns) {
-                Ok(annex) => (Stage::Drafting(begun(annex)), Ok(())),
-                Err(fault) => (Stage::Start, Err(fault)),
-            },
-            (Stage::Drafting(mut book), Letter::Plate) => {
-                let answer = add_plate(&mut book, columns);
-                (Stage::Drafting(book), answer)
+        match (&mut *self, line) {
+            (Stage::Start, Line::Annex(fields)) => {
+                *self = Stage::Drafting(begun(chosen_annex(fields)?));
+                Ok(())
             }
-            (Stage::Drafting(mut book), Letter::BoltGroup) => {
-                let answer = add_bolt_group(&mut book, columns);
-                (Stage::Drafting(book), answer)
-            }
-            (Stage::Drafting(mut book), Letter::Weld) => {
-                let answer = add_weld(&mut book, columns);
-                (Stage::Drafting(book), answer)
-            }
-            (Stage::Drafting(mut book), Letter::Strike) => {
-                let answer = strike(&mut book, columns);
-                (Stage::Drafting(book), answer)
-            }
-            (stage, _) => (stage, Err(Fault::WrongStage)),
+            (Stage::Drafting(book), Line::Plate(fields)) => add_plate(book, fields),
+            (Stage::Drafting(book), Line::BoltGroup(fields)) => add_bolt_group(book, fields),
+            (Stage::Drafting(book), Line::Weld(fields)) => add_weld(book, fields),
+            (Stage::Drafting(book), Line::Strike(fields)) => strike(book, fields),
+            _ => Err(Fault::WrongStage),
         }
     }
 }

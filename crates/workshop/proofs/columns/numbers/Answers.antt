@@ -1,18 +1,20 @@
-use Rattle.std.proofs.Common.{◌≡◌, sym, ◌∙◌, length-set, w32, SFits, to_z, of_z, rules}
+use Rattle.std.proofs.Common.{◌≡◌, ◌+◌, [], ℤ, Option, sym, ap, ◌∙◌, length-set, w32, SFits, to_z, of_z, rules, arith}
 use lib.ListN.{length-replicate}
+use Rattle.std.specs.Option.{ok_or}
 use Rattle.std.proofs.lemmas.Result.{err_from_is_err_and}
 use Rattle.std.proofs.lemmas.Int.{to_z-of_z}
 use Rattle.workshop.proofs.Reading.{left_all, left_more, left_fails, left_none}
 use Rattle.workshop.proofs.columns.numbers.Goals as goal
 
 pub loop-i-init : goal.loop-i-init
-loop-i-init g c = (left_all g.row.N c.args.columns.now, length-replicate _ _)
+loop-i-init g c = (left_all c.args.fields.now [], length-replicate _ _)
 
 pub returns-in_err-numbers : goal.returns-in_err-numbers
 returns-in_err-numbers g c =
     let exit = err_from_is_err_and c.from_residual.result c.from_residual.ensures.1 in
     rw (exit.1, exit.2)
-    (sym (left_fails g.row.N c.args.columns.now c.loop-i.i c.loop-i.numbers _ c.loop-i-test.true c.in_err-numbers.ensures)
+    (sym (left_fails c.args.fields.now c.loop-i.i c.loop-i.numbers _ (omega arith) (omega arith)
+    (c.in_err-numbers.ensures.value ∙ ap (λ (o : Option ℤ). ok_or o (record { field = c.loop-i.i + 1 })) c.number.ensures))
     ∙ c.loop-i.invariant.0)
 
 pub loop-i-preserved : goal.loop-i-preserved
@@ -20,13 +22,13 @@ loop-i-preserved g c =
     let fits : SFits w32 c.in_ok-numbers.field-0 = search rules in
     let same : to_z w32 (of_z w32 c.in_ok-numbers.field-0) ≡ c.in_ok-numbers.field-0 = to_z-of_z w32 _ fits in (
       rw same
-          (left_more g.row.N c.args.columns.now c.loop-i.i c.loop-i.numbers c.in_ok-numbers.field-0
-          c.loop-i-test.true c.loop-i.invariant.1 c.in_ok-numbers.ensures
+          (left_more c.args.fields.now c.loop-i.i c.loop-i.numbers c.in_ok-numbers.field-0 (omega arith) (omega arith)
+          (c.in_ok-numbers.ensures.value ∙ ap (λ (o : Option ℤ). ok_or o (record { field = c.loop-i.i + 1 })) c.number.ensures)
           ∙ c.loop-i.invariant.0),
       length-set _ _ _ ∙ c.loop-i.invariant.1,
     )
 
 pub returns : goal.returns
 returns g c =
-    sym (left_none g.row.N c.args.columns.now c.loop-i.i c.loop-i.numbers c.loop-i-test.false c.loop-i.invariant.1)
+    sym (left_none c.args.fields.now c.loop-i.i c.loop-i.numbers (omega arith) (omega arith))
     ∙ c.loop-i.invariant.0

@@ -1,0 +1,52 @@
+// A line taken apart: its letter and its fields.
+ghost use Rattle.std.specs.Prelude.{◌≡◌, Ok, Err, MatchResult};
+ghost use Rattle.workshop.specs.Letters.{asked, fields_read, line_read};
+
+use crate::columns::{Field, WIDTH};
+use crate::faults::Fault;
+
+// What a line asks for, with the fields that it gives.
+#[derive(Clone, Copy)]
+pub enum Line<'a> {
+    Annex(&'a [Field; 3]),
+    Plate(&'a [Field; 3]),
+    BoltGroup(&'a [Field; 11]),
+    Weld(&'a [Field; 5]),
+    Strike(&'a [Field; 1]),
+    SetOut,
+    Load(&'a [Field; 5]),
+    Withdraw(&'a [Field; 1]),
+    Verdict,
+}
+
+impl<'a> Line<'a> {
+    pub(crate) fn read(line: &'a [u8]) -> Result<Line<'a>, Fault>
+        ensures { MatchResult result (λ l. line_read line.now ≡ Ok (asked l)) (λ f. line_read line.now ≡ Err f) }
+    {
+        let [letter, columns @ ..] = line else {
+            return Err(Fault::NoLetter);
+        };
+        match char::from(*letter) {
+            'A' => Ok(Line::Annex(fields(columns)?)),
+            'P' => Ok(Line::Plate(fields(columns)?)),
+            'B' => Ok(Line::BoltGroup(fields(columns)?)),
+            'W' => Ok(Line::Weld(fields(columns)?)),
+            'X' => Ok(Line::Strike(fields(columns)?)),
+            'S' => fields::<0>(columns).map(|_| Line::SetOut),
+            'L' => Ok(Line::Load(fields(columns)?)),
+            'D' => Ok(Line::Withdraw(fields(columns)?)),
+            'V' => fields::<0>(columns).map(|_| Line::Verdict),
+            _ => Err(Fault::NoLetter),
+        }
+    }
+}
+
+// The fields, where the columns are as many as N of them need.
+fn fields<const N: usize>(columns: &[u8]) -> Result<&[Field; N], Fault>
+    ensures { MatchResult result (λ f. fields_read N columns.now ≡ Ok f.now) (λ f. fields_read N columns.now ≡ Err f) }
+{
+    match columns.as_chunks::<WIDTH>() {
+        (fields, []) => <&[Field; N]>::try_from(fields).or(Err(Fault::WrongLength)),
+        _ => Err(Fault::WrongLength),
+    }
+}
