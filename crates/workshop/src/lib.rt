@@ -1,7 +1,6 @@
 // A workshop's file: its columns, its lines, the stages of its book, and the report.
 #![tactic(auto)]
 
-mod acts;
 mod columns;
 pub mod faults;
 pub mod file;

@@ -1,14 +1,17 @@
 ghost use Rattle.std.specs.Prelude.{◌≡◌};
 ghost use Rattle.book.specs.Tables.{empty_tables};
-ghost use Rattle.workshop.specs.Letters.{asked};
-ghost use Rattle.workshop.specs.Stages.{all_places, state_of, outcome, step, act_step};
+ghost use Rattle.workshop.specs.Stages.{all_places, state_of, outcome, step};
 
-use crate::acts::{add_bolt_group, add_plate, add_weld, chosen_annex, strike};
+use crate::columns::numbers;
 use crate::faults::Fault;
 use crate::line::Line;
+use bolting::bolt_groups::BoltGroupEntry;
 use book::drafting::Drafting;
 use book::tables::Places;
-use parts::annexes::Rules;
+use parts::annexes::{AnnexEntry, Rules};
+use parts::entries::Entry;
+use parts::plates::PlateEntry;
+use parts::welds::WeldEntry;
 
 // How far a file has come.
 #[derive(Drop)]
@@ -35,31 +38,37 @@ fn begun(choice: Rules) -> Drafting<Rules>
 }
 
 impl Stage {
-    // What a line does, and what is answered to it. The stage is moved on: one that is left cannot be used again.
-    pub(crate) fn answer(self, line: &[u8]) -> (Stage, Result<(), Fault>)
+    // What a line does, and what is answered to it. A stage is moved on, so that one that is left cannot be used again.
+    pub(crate) fn answer(mut self, line: &[u8]) -> (Stage, Result<(), Fault>)
         ensures { outcome result ≡ step (state_of self) line.now }
     {
-        let mut stage = self;
-        let answer = match Line::read(line) {
-            Ok(line) => stage.act(line),
-            Err(fault) => Err(fault),
-        };
-        (stage, answer)
+        let answer = self.act(line);
+        (self, answer)
     }
 
     // A rule of the project: the stage and the letter are matched together.
-    fn act(&mut self, line: Line) -> Result<(), Fault>
-        ensures { (state_of self.new, result) ≡ act_step (state_of self.old) (asked line.entry).0 (asked line.entry).1 }
+    fn act(&mut self, line: &[u8]) -> Result<(), Fault>
+        ensures { (state_of self.new, result) ≡ step (state_of self.old) line.now }
     {
-        match (&mut *self, line) {
+        match (&mut *self, Line::read(line)?) {
             (Stage::Start, Line::Annex(fields)) => {
-                *self = Stage::Drafting(begun(chosen_annex(fields)?));
+                let entry = AnnexEntry::from(numbers(fields)?);
+                *self = Stage::Drafting(begun(entry.checked()?));
                 Ok(())
             }
-            (Stage::Drafting(book), Line::Plate(fields)) => add_plate(book, fields),
-            (Stage::Drafting(book), Line::BoltGroup(fields)) => add_bolt_group(book, fields),
-            (Stage::Drafting(book), Line::Weld(fields)) => add_weld(book, fields),
-            (Stage::Drafting(book), Line::Strike(fields)) => strike(book, fields),
+            (Stage::Drafting(book), Line::Plate(fields)) => {
+                Ok(book.add(PlateEntry::from(numbers(fields)?))?)
+            }
+            (Stage::Drafting(book), Line::BoltGroup(fields)) => {
+                Ok(book.add(BoltGroupEntry::from(numbers(fields)?))?)
+            }
+            (Stage::Drafting(book), Line::Weld(fields)) => {
+                Ok(book.add(WeldEntry::from(numbers(fields)?))?)
+            }
+            (Stage::Drafting(book), Line::Strike(fields)) => {
+                let [mark] = numbers(fields)?;
+                Ok(book.strike(mark)?)
+            }
             _ => Err(Fault::WrongStage),
         }
     }
