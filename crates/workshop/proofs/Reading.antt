@@ -1,27 +1,13 @@
 -- Numbers read from columns, a byte and a field at a time.
-use Rattle.std.proofs.Common.{◌≡◌, ℕ, ◌+◌, ◌-◌, ◌*◌, ◌/◌, ◌%◌, ◌^◌, ◌≢◌, ◌<◌, ◌≤◌, true, false, leb, List, [], ◌∷◌, ◌++◌, length, get_or, take, drop, set, ℤ, None, Ok, Err, Result, sym, refl, ap, ◌∙◌, append_assoc, append-nil, pow-suc, add-one, arith, lit<}
+use Rattle.std.proofs.Common.{◌≡◌, ℕ, ◌+◌, ◌*◌, ◌/◌, ◌%◌, ◌^◌, ◌≢◌, ◌<◌, ◌≤◌, List, [], ◌∷◌, ◌++◌, length, get_or, take, drop, set, ℤ, Ok, Err, Result, sym, refl, ap, ◌∙◌, append_assoc, append-nil, arith, lit<}
 use native.Mathlib.Nat.{pow-le-pow_right}
-use Rattle.std.proofs.lemmas.List.{take_rest, take_all, drop_all, take_more_set, at_drop_more}
-use Rattle.std.proofs.lemmas.Bool.{eq-eqb, ne_eqb, leb-true, and_parts}
+use Rattle.std.proofs.lemmas.List.{take_all, drop_all, take_more_set, at_drop_more}
+use Rattle.std.proofs.lemmas.Bool.{eq-eqb, ne_eqb}
 use Rattle.workshop.specs.declared.columns.IllFormed.{IllFormed}
 use Rattle.std.specs.Simd.{first_chunks}
 use Rattle.workshop.specs.declared.faults.Fault.TheVariants.{WrongLength}
 use Rattle.workshop.specs.Letters.{fields_read}
-use Rattle.workshop.specs.Columns.{fields_in, behind_spaces, digits_after, field_read, is_digit, natural_in, negative, number_then, numbers_from, numbers_of, signed_in}
-
-pub spaces_more : (bs : List ℕ) → get_or bs 0 0 ≡ 32 →
-    behind_spaces (take (length bs - 1) (drop 1 bs)) ≡ behind_spaces bs
-spaces_more [] is = absurd (omega arith)
-spaces_more (b ∷ bs) is = ap behind_spaces (take_rest (b ∷ bs) 1) ∙ rw (eq-eqb b 32 is)
-
-pub spaces_all : (bs : List ℕ) → (1 ≤ length bs → get_or bs 0 0 ≡ 32 → ⊥) → bs ≡ behind_spaces bs
-spaces_all [] none = refl
-spaces_all (b ∷ bs) none = rw (ne_eqb b 32 (none (omega arith)))
-
-pub signed_minus : (bs : List ℕ) → get_or bs 0 0 ≡ 45 →
-    negative (natural_in (take (length bs - 1) (drop 1 bs))) ≡ signed_in bs
-signed_minus [] is = absurd (omega arith)
-signed_minus (b ∷ bs) is = ap (λ ds. negative (natural_in ds)) (take_rest (b ∷ bs) 1) ∙ rw (eq-eqb b 45 is)
+use Rattle.workshop.specs.Columns.{fields_in, field_read, number_then, numbers_from}
 
 -- what is read so far leaves room for six digits
 pub digits_room : (n i : ℕ) → n < 10 ^ i → i ≤ 6 → n < 1000000
@@ -29,25 +15,10 @@ digits_room n i small few =
     let le : 10 ^ i ≤ 10 ^ 6 = pow-le-pow_right {n = 10} (lit< tt) few in
     omega arith
 
-module _ (n : ℕ) (bs : List ℕ) (i : ℕ) (within : i < length bs) where
-  pub digits_more : is_digit (get_or bs i 0) ≡ true →
-      (digits_after n (drop i bs) ≡ digits_after (10 * n + (get_or bs i 0 - 48)) (drop (i + 1) bs))
-      × (n < 10 ^ i → 10 * n + (get_or bs i 0 - 48) < 10 ^ (i + 1))
-  digits_more digit =
-      let high : get_or bs i 0 ≤ 57 = leb-true (get_or bs i 0) 57 (and_parts (leb 48 (get_or bs i 0)) (leb (get_or bs i 0) 57) digit).1 in
-      (at_drop_more (digits_after n) bs i 0 within ∙ rw digit, λ small. rw (add-one, pow-suc) (omega arith))
-
-  pub digits_end : is_digit (get_or bs i 0) ≡ false → digits_after n (drop i bs) ≡ None
-  digits_end other = at_drop_more (digits_after n) bs i 0 within ∙ rw other
-
 -- numbers read before those of the fields behind them
 abbrev pub before : List ℤ → Result (List ℤ) IllFormed → Result (List ℤ) IllFormed
 before ns (Ok ms) = Ok (ns ++ ms)
 before ns (Err e) = Err e
-
-before_none : (r : Result (List ℤ) IllFormed) → before [] r ≡ r
-before_none (Ok ms) = refl
-before_none (Err e) = refl
 
 before_push : (ns : List ℤ) (n : ℤ) (r : Result (List ℤ) IllFormed) →
     before ns (number_then (Ok n) r) ≡ before (ns ++ n ∷ []) r
@@ -58,9 +29,6 @@ module _ (fs : List (List ℕ)) where
   -- what is left to read behind i fields, after the numbers of those
   abbrev pub left_after : ℕ → List ℤ → Result (List ℤ) IllFormed
   left_after i ns = before (take i ns) (numbers_from (i + 1) (drop i fs))
-
-  pub left_all : (ns : List ℤ) → left_after 0 ns ≡ numbers_of fs
-  left_all ns = before_none _
 
   pub left_none : (i : ℕ) (ns : List ℤ) → length fs ≤ i → length ns ≡ length fs → left_after i ns ≡ Ok ns
   unfolding numbers_from
@@ -78,8 +46,8 @@ module _ (fs : List (List ℕ)) where
   left_more i ns x lt long is =
       rw (take_more_set ns i x (omega arith)) (sym (next i ns lt (Ok x) is ∙ before_push (take i ns) x _))
 
-  pub left_fails : (i : ℕ) (ns : List ℤ) (e : IllFormed) → i < length fs → length ns ≡ length fs → Err e ≡ field_read (i + 1) (get_or fs i []) → left_after i ns ≡ Err e
-  left_fails i ns e lt long is = next i ns lt (Err e) is
+  pub left_fails : (i : ℕ) (ns : List ℤ) (e : IllFormed) → i < length fs → Err e ≡ field_read (i + 1) (get_or fs i []) → left_after i ns ≡ Err e
+  left_fails i ns e lt is = next i ns lt (Err e) is
 
 -- chunks of six bytes and none behind them are the fields, where they are as many
 pub fields_whole : (n : ℕ) (bytes : List ℕ) → length bytes % 6 ≡ 0 → length bytes / 6 ≡ n → fields_read n bytes ≡ Ok (first_chunks 6 (length bytes / 6) bytes)

@@ -1,19 +1,15 @@
-use Rattle.std.proofs.Common.{◌≡◌, ◌+◌, [], ℤ, Option, sym, ap, ◌∙◌, length-set, w32, SFits, to_z, of_z, rules, arith}
-use lib.ListN.{length-replicate}
+use Rattle.std.proofs.Common.{◌≡◌, ◌+◌, ℤ, Option, sym, ap, ◌∙◌, length-set, w32, SFits, to_z, of_z, rules, arith}
 use Rattle.std.specs.Option.{ok_or}
 use Rattle.std.proofs.lemmas.Result.{err_from_is_err_and}
 use Rattle.std.proofs.lemmas.Int.{to_z-of_z}
-use Rattle.workshop.proofs.Reading.{left_all, left_more, left_fails, left_none}
+use Rattle.workshop.proofs.Reading.{left_more, left_fails, left_none}
 use Rattle.workshop.proofs.columns.numbers.Goals as goal
-
-pub loop-i-init : goal.loop-i-init
-loop-i-init g c = (left_all c.args.fields.now [], length-replicate _ _)
 
 pub returns-in_err-numbers : goal.returns-in_err-numbers
 returns-in_err-numbers g c =
     let exit = err_from_is_err_and c.from_residual.result c.from_residual.ensures.1 in
     rw (exit.1, exit.2)
-    (sym (left_fails c.args.fields.now c.loop-i.i c.loop-i.numbers _ (omega arith) (omega arith)
+    (sym (left_fails c.args.fields.now c.loop-i.i c.loop-i.numbers _ (omega arith)
     (c.in_err-numbers.ensures.value ∙ ap (λ (o : Option ℤ). ok_or o (record { field = c.loop-i.i + 1 })) c.number.ensures))
     ∙ c.loop-i.invariant.0)
 
