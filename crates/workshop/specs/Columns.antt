@@ -57,7 +57,7 @@ number_then (Ok n) (Err e) = Err e
 number_then (Ok n) (Ok ns) = Ok (n ∷ ns)
 
 -- the numbers of fields that are counted from i on; or the first field that is ill-formed
-unfoldable pub numbers_from : ℕ → List (List ℕ) → Result (List ℤ) IllFormed
+abbrev pub numbers_from : ℕ → List (List ℕ) → Result (List ℤ) IllFormed
 numbers_from i [] = Ok []
 numbers_from i (field ∷ fields) = number_then (field_read i field) (numbers_from (i + 1) fields)
 
