@@ -1,6 +1,6 @@
 -- Fields that hold a number and fields that hold none; small files and their reports.
 use Rattle.std.proofs.Common.{◌≡◌, [], ◌∷◌, ◌++◌, pos, negsuc, Some, None, Ok, Err, codes, refl, lit≤}
-use Rattle.workshop.specs.Columns.{column_of, number_in, fields_in, numbers_in}
+use Rattle.workshop.specs.Columns.{column_of, number_in, numbers_in}
 use Rattle.workshop.specs.Lines.{lines_in}
 use Rattle.workshop.specs.Report.{report_of}
 use Rattle.workshop.specs.Rows.{row_bytes}
@@ -40,11 +40,9 @@ parted_minus : number_in (codes "   - 1") ≡ None
 parted_minus = refl
 
 three_fields : numbers_in 3 (codes "     7    -1   120") ≡ Ok (pos 7 ∷ negsuc 0 ∷ pos 120 ∷ [])
-unfolding fields_in
 three_fields = refl
 
 second_field : numbers_in 3 (codes "     7    01    +2") ≡ Err (record { field = 2 })
-unfolding fields_in
 second_field = refl
 
 printed : column_of 1024 ≡ codes "  1024"

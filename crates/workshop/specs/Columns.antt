@@ -43,7 +43,7 @@ abbrev pub number_in : List ℕ → Option ℤ
 number_in bytes = signed_in (behind_spaces bytes)
 
 -- so many fields side by side, six bytes each
-unfoldable pub fields_in : ℕ → List ℕ → List (List ℕ)
+abbrev pub fields_in : ℕ → List ℕ → List (List ℕ)
 fields_in n bytes = first_chunks 6 n bytes
 
 -- the number of field i; or that the field is ill-formed
