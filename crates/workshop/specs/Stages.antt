@@ -1,16 +1,20 @@
 -- What a line does: the stage that the file has come to, and the letter, decide together.
-use Rattle.std.specs.Prelude.{ℕ, List, Ok, Err, Result}
+use Rattle.std.specs.Prelude.{ℕ, List, ℤ, Ok, Err, Result}
 use Rattle.parts.specs.declared.annexes.Rules.{Rules}
 use Rattle.book.specs.declared.tables.Tables.{Tables}
 use Rattle.book.specs.declared.tables.Places.{Places}
 use Rattle.book.specs.Tables.{empty_tables}
+use Rattle.book.specs.Drafts.{Answer, plate_answer, plate_entered, group_answer, group_entered, weld_answer, weld_entered, strike_answer, struck_out}
+use Rattle.parts.specs.Entries.{nth, plate_fields, weld_fields}
+use Rattle.bolting.specs.Groups.{group_fields}
 use Rattle.workshop.specs.declared.faults.Fault.{Fault}
 use Rattle.workshop.specs.declared.faults.Fault.TheVariants.{WrongStage}
 use Rattle.workshop.specs.declared.stages.Stage.{Stage}
 use Rattle.workshop.specs.declared.stages.Stage.TheVariants.{Start, Drafting}
 use Rattle.workshop.specs.Columns.{numbers_of}
 use Rattle.workshop.specs.Letters.{Letter, annex, plate, bolt_group, weld, strike, set_out, load, withdraw, verdict, Asked, line_read}
-use Rattle.workshop.specs.Acts.{Done, beginning, plate_act, plate_after, group_act, group_after, weld_act, weld_after, strike_act, strike_after}
+use Rattle.workshop.specs.Acts.{Done, Fields, beginning, from_book}
+use Rattle.workshop.specs.Faults.{of_column}
 
 -- how far a file has come, and what its book then holds
 pub data State : Type 0 where
@@ -41,6 +45,12 @@ begin_step (Err f) = (start, Err f)
 abbrev pub misplaced : State → Step
 misplaced s = (s, Err WrongStage)
 
+-- an act on the book, by what the numbers of its fields are answered and what the book then holds; nothing changes
+-- where a field is ill-formed
+abbrev pub drafted : Rules → Tables → (List ℤ → Answer) → (List ℤ → Tables) → Fields → Step
+drafted a t answer after (Err e) = (draft a t, Err (of_column e))
+drafted a t answer after (Ok zs) = (draft a (after zs), from_book (answer zs))
+
 -- until an A is done only A does something, then P, B, W and X
 abbrev pub act_step : State → Letter → List (List ℕ) → Step
 act_step start annex fs = begin_step (beginning (numbers_of fs))
@@ -53,10 +63,13 @@ act_step start load fs = misplaced start
 act_step start withdraw fs = misplaced start
 act_step start verdict fs = misplaced start
 act_step (draft a t) annex fs = misplaced (draft a t)
-act_step (draft a t) plate fs = (draft a (plate_after t (numbers_of fs)), plate_act t (numbers_of fs))
-act_step (draft a t) bolt_group fs = (draft a (group_after t (numbers_of fs)), group_act t (numbers_of fs))
-act_step (draft a t) weld fs = (draft a (weld_after t (numbers_of fs)), weld_act t (numbers_of fs))
-act_step (draft a t) strike fs = (draft a (strike_after t (numbers_of fs)), strike_act t (numbers_of fs))
+act_step (draft a t) plate fs =
+    drafted a t (λ zs. plate_answer t (plate_fields zs)) (λ zs. plate_entered t (plate_fields zs)) (numbers_of fs)
+act_step (draft a t) bolt_group fs =
+    drafted a t (λ zs. group_answer t (group_fields zs)) (λ zs. group_entered t (group_fields zs)) (numbers_of fs)
+act_step (draft a t) weld fs =
+    drafted a t (λ zs. weld_answer t (weld_fields zs)) (λ zs. weld_entered t (weld_fields zs)) (numbers_of fs)
+act_step (draft a t) strike fs = drafted a t (λ zs. strike_answer t (nth 0 zs)) (λ zs. struck_out t (nth 0 zs)) (numbers_of fs)
 act_step (draft a t) set_out fs = misplaced (draft a t)
 act_step (draft a t) load fs = misplaced (draft a t)
 act_step (draft a t) withdraw fs = misplaced (draft a t)
