@@ -68,9 +68,6 @@ number_read (suc k) n small =
           ∙ tail_read k n (omega (arith, pow-suc 10 k)))
     ]
 
-none_some : {X : Type 0} (x : X) {P : Type 0} → None ≡ Some x → P
-none_some x e = let z : ◌≡◌ {A = ℕ} 0 1 = cc in absurd (omega arith)
-
 digit_split : (b : ℕ) (bs : List ℕ) (m n : ℕ) → digits_after m (b ∷ bs) ≡ Some n →
     (48 ≤ b) × (b ≤ 57) × (digits_after (10 * m + (b - 48)) bs ≡ Some n)
 digit_split b bs m n is =
@@ -78,7 +75,7 @@ digit_split b bs m n is =
       | inl digit ↦
           let both = and_parts (leb 48 b) (leb b 57) digit in
           (leb-true 48 b both.0, leb-true b 57 both.1, rw digit at is)
-      | inr other ↦ none_some n (rw other at is)
+      | inr other ↦ let e = rw other at is in cc
     ]
 
 -- in front of the digits read last stand those of m
@@ -103,14 +100,13 @@ digits_wide b (c ∷ cs) m n is low =
     (digits_wide c cs (10 * m + (b - 48)) n split.2 (omega (arith, pow-suc 10 (length cs))))
 
 negative_never : (o : Option ℕ) (n : ℕ) → negative o ≡ Some (pos n) → ⊥
-negative_never None n is = none_some (pos n) is
-negative_never (Some zero) n is = none_some (pos n) is
+negative_never None n is = cc
+negative_never (Some zero) n is = cc
 negative_never (Some (suc m)) n is =
-    let minus : Some (negsuc m) ≡ Some (pos n) = rw (ne_eqb (suc m) 0 (λ e. omega arith)) at is in
-    let z : ◌≡◌ {A = ℕ} 0 1 = cc in omega arith
+    let minus : Some (negsuc m) ≡ Some (pos n) = rw (ne_eqb (suc m) 0 (λ e. omega arith)) at is in cc
 
 mapped_pos : (o : Option ℕ) (n : ℕ) → option_map pos o ≡ Some (pos n) → o ≡ Some n
-mapped_pos None n is = none_some (pos n) is
+mapped_pos None n is = cc
 mapped_pos (Some m) n is = cc
 
 -- a text of these bytes is how the number is printed at that width
@@ -120,7 +116,7 @@ Printed bytes k n = (bytes ≡ wide k n) × (n < 10 ^ suc k)
 zero_back : (bs : List ℕ) (n : ℕ) → zero_then bs ≡ Some n → Printed (48 ∷ bs) (length bs) n
 unfolding wide
 zero_back [] n is = let none : 0 ≡ n = cc in (ap (λ d. d ∷ []) (omega arith), omega arith)
-zero_back (b ∷ bs) n is = none_some n is
+zero_back (b ∷ bs) n is = cc
 
 natural_back : (b : ℕ) (bs : List ℕ) (n : ℕ) → natural_in (b ∷ bs) ≡ Some n → Printed (b ∷ bs) (length bs) n
 natural_back b bs n is =
@@ -148,7 +144,7 @@ number_back : (b : ℕ) (bs : List ℕ) (n : ℕ) → number_in (b ∷ bs) ≡ S
 unfolding wide
 number_back b [] n is =
     elim (cases_Bool (eqb b 32)) [
-      | inl space ↦ none_some (pos n) (rw space at is)
+      | inl space ↦ let e = rw space at is in cc
       | inr other ↦ unspaced_back b [] n (rw other at is)
     ]
 number_back b (c ∷ cs) n is =

@@ -1,6 +1,7 @@
 -- The shape of a report.
 use Rattle.std.proofs.Common.{◌≡◌, ℕ, suc, ◌+◌, ltb, List, [], ◌∷◌, ◌++◌, map, length, Ok, Err, refl, ap, ◌∙◌, inl, inr, arith}
 use Rattle.std.specs.List.{flat_map, AllByRecursion}
+use Rattle.std.proofs.lemmas.List.{length-map}
 use Rattle.std.proofs.lemmas.Bool.{cases_Bool, ltb-true, ltb-false}
 use Rattle.workshop.specs.declared.rows.Row.{Row}
 use Rattle.workshop.specs.Acts.{Done}
@@ -30,10 +31,6 @@ rows_wide : (rs : List Row) → AllByRecursion (λ row. length row ≡ 36) (map 
 rows_wide [] = tt
 rows_wide (r ∷ rs) = (refl, rows_wide rs)
 
-rows_many : (rs : List Row) → length (map columns_of rs) ≡ length rs
-rows_many [] = refl
-rows_many (r ∷ rs) = ap suc (rows_many rs)
-
 rows_per_line : (n : ℕ) (s : State) (ls : List (List ℕ)) → length (rows_from n s ls) ≡ length ls
 rows_per_line n s [] = refl
 rows_per_line n s (l ∷ ls) = ap suc (rows_per_line (n + 1) (step s l).0 ls)
@@ -55,22 +52,22 @@ module _ (file : List ℕ) where
       (Answerable file → (length (map columns_of (gated_rows d file)) ≡ line_feeds file) × NumberedFrom 1 (map columns_of (gated_rows d file)))
       × ((Answerable file → ⊥) → (length (map columns_of (gated_rows d file)) ≡ 1) × NumberedFrom 0 (map columns_of (gated_rows d file)))
   by_gate (Ok x) to from = (
-    λ _. (rows_many (rows_from 1 start (lines_in file)) ∙ rows_per_line 1 start (lines_in file) ∙ lines_count file, rows_numbered 1 start (lines_in file)),
+    λ _. (length-map (rows_from 1 start (lines_in file)) columns_of ∙ rows_per_line 1 start (lines_in file) ∙ lines_count file, rows_numbered 1 start (lines_in file)),
     λ none. absurd (none (to refl)),
   )
   by_gate (Err f) to from = (
-    λ yes. let z : ◌≡◌ {A = ℕ} 0 1 = cc (from yes) in absurd (omega arith),
+    λ yes. let e = from yes in cc,
     λ _. (refl, (refl, tt)),
   )
 
   passed : file_gate file ≡ Ok tt → Answerable file
   passed e =
       elim (cases_Bool (ltb 65536 (length file))) [
-        | inl b ↦ let z : ◌≡◌ {A = ℕ} 0 1 = cc (rw b at e) in absurd (omega arith)
+        | inl b ↦ let no = rw b at e in cc
         | inr b ↦
             elim (cases_Bool (ends_line file)) [
               | inl w ↦ (omega (arith, ltb-false 65536 (length file) b), w)
-              | inr w ↦ let z : ◌≡◌ {A = ℕ} 0 1 = cc (rw (b, w) at e) in absurd (omega arith)
+              | inr w ↦ let no = rw (b, w) at e in cc
             ]
       ]
 

@@ -1,6 +1,5 @@
 -- Text split at its line feeds.
-use Rattle.std.proofs.Common.{◌≡◌, ℕ, suc, ◌+◌, ◌≤◌, true, false, cond, eqb, List, [], ◌∷◌, ◌++◌, length, refl, ap, ◌∙◌, arith}
-use Rattle.std.proofs.lemmas.List.{nil_from_length}
+use Rattle.std.proofs.Common.{◌≡◌, ℕ, suc, ◌≤◌, true, false, cond, eqb, List, [], ◌∷◌, ◌++◌, length, refl, ap, ◌∙◌, arith}
 use Rattle.std.specs.List.{slice_split, onto_first}
 use Rattle.std.proofs.lemmas.List.Splits.{length-slice_split}
 use Rattle.workshop.specs.Lines.{ended, line_feeds, line_with, lines_in}
@@ -17,17 +16,6 @@ lines_count (b ∷ bs) =
     with_count : (b : ℕ) (ls : List (List ℕ)) → length (line_with b ls) ≡ length ls
     with_count b [] = refl
     with_count b (l ∷ ls) = refl
-
-pub no_lines : (bs : List ℕ) → line_feeds bs ≡ 0 → lines_in bs ≡ []
-no_lines bs none = let e : length (lines_in bs) ≡ 0 = lines_count bs ∙ none in nil_from_length _ e
-
-pub feeds_append : (fs bs : List ℕ) → line_feeds (fs ++ bs) ≡ line_feeds fs + line_feeds bs
-feeds_append [] bs = omega arith
-feeds_append (a ∷ fs) bs =
-    elim (eqb a 10) as (λ v. cond v (suc (line_feeds (fs ++ bs))) (line_feeds (fs ++ bs)) ≡ cond v (suc (line_feeds fs)) (line_feeds fs) + line_feeds bs) [
-      | true ↦ omega (arith, feeds_append fs bs)
-      | false ↦ feeds_append fs bs
-    ]
 
 pub lines_first : (line rest : List ℕ) → line_feeds line ≡ 0 → lines_in (line ++ (10 ∷ rest)) ≡ line ∷ lines_in rest
 lines_first [] rest = λ none. refl

@@ -20,13 +20,9 @@ abbrev pub no_details : List ℕ
 no_details = 0 ∷ 0 ∷ 0 ∷ []
 
 abbrev pub fault_details : Fault → List ℕ
-fault_details NoLetter = no_details
-fault_details WrongLength = no_details
-fault_details WrongStage = no_details
 fault_details (IllFormed field) = field ∷ 0 ∷ 0 ∷ []
-fault_details TooLong = no_details
-fault_details Unfinished = no_details
 fault_details (Refused r) = refusal_details r
+fault_details f = no_details
 
 abbrev pub of_column : FieldFault → Fault
 of_column e = IllFormed e.field

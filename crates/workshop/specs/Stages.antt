@@ -12,7 +12,7 @@ use Rattle.workshop.specs.declared.faults.Fault.TheVariants.{WrongStage}
 use Rattle.workshop.specs.declared.stages.Stage.{Stage}
 use Rattle.workshop.specs.declared.stages.Stage.TheVariants.{Start, Drafting}
 use Rattle.workshop.specs.Columns.{numbers_of}
-use Rattle.workshop.specs.Letters.{Letter, annex, plate, bolt_group, weld, strike, set_out, load, withdraw, verdict, Asked, line_read}
+use Rattle.workshop.specs.Letters.{Letter, annex, plate, bolt_group, weld, strike, Asked, line_read}
 use Rattle.workshop.specs.Acts.{Done, Fields, beginning, from_book}
 use Rattle.workshop.specs.Faults.{of_column}
 
@@ -41,28 +41,15 @@ abbrev pub begin_step : Result Rules Fault → Step
 begin_step (Ok a) = (draft a (empty_tables all_places), Ok tt)
 begin_step (Err f) = (start, Err f)
 
--- a letter that does nothing at this stage
-abbrev pub misplaced : State → Step
-misplaced s = (s, Err WrongStage)
-
 -- an act on the book, by what the numbers of its fields are answered and what the book then holds; nothing changes
 -- where a field is ill-formed
 abbrev pub drafted : Rules → Tables → (List ℤ → Answer) → (List ℤ → Tables) → Fields → Step
 drafted a t answer after (Err e) = (draft a t, Err (of_column e))
 drafted a t answer after (Ok zs) = (draft a (after zs), from_book (answer zs))
 
--- until an A is done only A does something, then P, B, W and X
+-- until an A is done only A does something, then P, B, W and X; any other letter is misplaced
 abbrev pub act_step : State → Letter → List (List ℕ) → Step
 act_step start annex fs = begin_step (beginning (numbers_of fs))
-act_step start plate fs = misplaced start
-act_step start bolt_group fs = misplaced start
-act_step start weld fs = misplaced start
-act_step start strike fs = misplaced start
-act_step start set_out fs = misplaced start
-act_step start load fs = misplaced start
-act_step start withdraw fs = misplaced start
-act_step start verdict fs = misplaced start
-act_step (draft a t) annex fs = misplaced (draft a t)
 act_step (draft a t) plate fs =
     drafted a t (λ zs. plate_answer t (plate_fields zs)) (λ zs. plate_entered t (plate_fields zs)) (numbers_of fs)
 act_step (draft a t) bolt_group fs =
@@ -70,10 +57,7 @@ act_step (draft a t) bolt_group fs =
 act_step (draft a t) weld fs =
     drafted a t (λ zs. weld_answer t (weld_fields zs)) (λ zs. weld_entered t (weld_fields zs)) (numbers_of fs)
 act_step (draft a t) strike fs = drafted a t (λ zs. strike_answer t (nth 0 zs)) (λ zs. struck_out t (nth 0 zs)) (numbers_of fs)
-act_step (draft a t) set_out fs = misplaced (draft a t)
-act_step (draft a t) load fs = misplaced (draft a t)
-act_step (draft a t) withdraw fs = misplaced (draft a t)
-act_step (draft a t) verdict fs = misplaced (draft a t)
+act_step s l fs = (s, Err WrongStage)
 
 -- a line that is not read is answered with its fault
 abbrev pub asked_step : State → Result Asked Fault → Step
