@@ -1,10 +1,11 @@
 -- What is printed in a column is read again, and nothing else is read as that number.
-use Rattle.std.proofs.Common.{◌≡◌, ℕ, zero, suc, ◌+◌, ◌-◌, ◌*◌, ◌/◌, ◌%◌, ◌^◌, ◌<◌, ◌≤◌, true, eqb, leb, ◌≢◌, List, [], ◌∷◌, map, length, pos, negsuc, Some, None, Ok, Option, sym, refl, ap, ◌∙◌, inl, inr, div-lt_iff_lt-mul, pow-suc, le-div_iff_mul-le, div-one, arith, lit<}
+use Rattle.std.proofs.Common.{◌≡◌, ℕ, zero, suc, ◌+◌, ◌-◌, ◌*◌, ◌/◌, ◌%◌, ◌^◌, ◌<◌, ◌≤◌, eqb, ◌≢◌, List, [], ◌∷◌, map, length, pos, Some, Ok, Option, sym, refl, ap, ◌∙◌, inl, inr, div-lt_iff_lt-mul, pow-suc, le-div_iff_mul-le, div-one, arith, lit<}
 use native.Mathlib.Nat.{div-div-eq-div-mul, one-le-pow}
-use Rattle.std.proofs.lemmas.Bool.{cases_Bool, cases_lt, cases_eq, eqb-true, eqb-false, ne_eqb, le-leb, leb-true, lt-ltb, le-ltb, and_parts, and_from}
+use Rattle.std.proofs.lemmas.Grind.{common_steps}
+use Rattle.std.proofs.lemmas.Bool.{cases_Bool, cases_lt, cases_eq, eqb-true, eqb-false, lt-ltb, le-ltb}
 use Rattle.std.specs.Option.{option_map, ok_or}
 use Rattle.std.specs.List.{flat_map, AllByRecursion}
-use Rattle.workshop.specs.Columns.{ColumnsAgree, ColumnsSideBySide, column_of, digit_at, digits_after, fields_in, is_digit, natural_in, negative, number_in, number_then, numbers_from, signed_in, zero_then}
+use Rattle.workshop.specs.Columns.{ColumnsAgree, ColumnsSideBySide, column_of, digit_at, digits_after, fields_in, natural_in, negative, number_in, number_then, numbers_from, signed_in, zero_then}
 
 -- a number printed at the right of k places and one
 wide : ℕ → ℕ → List ℕ
@@ -12,7 +13,7 @@ wide zero n = (48 + n % 10) ∷ []
 wide (suc k) n = digit_at n (10 ^ suc k) ∷ wide k n
 
 ten_div : (n k : ℕ) → n / 10 ^ suc k ≡ n / 10 ^ k / 10
-ten_div n k = ap (λ w. n / w) (pow-suc 10 k) ∙ sym (div-div-eq-div-mul n (10 ^ k) 10)
+ten_div n k = rw pow-suc (sym (div-div-eq-div-mul n (10 ^ k) 10))
 
 ten_pos : (k : ℕ) → 0 < 10 ^ k
 ten_pos k = one-le-pow k 10 (lit< tt)
@@ -21,13 +22,10 @@ reached : (n k : ℕ) → 10 ^ k ≤ n → 1 ≤ n / 10 ^ k
 reached n k low = (le-div_iff_mul-le (ten_pos k)).1 (omega arith)
 
 reaches : (n k : ℕ) → 1 ≤ n / 10 ^ k → 10 ^ k ≤ n
-reaches n k some = let low : 1 * 10 ^ k ≤ n = (le-div_iff_mul-le (ten_pos k)).0 some in omega arith
+reaches n k some = grind (arith, common_steps, one-le-pow, le-div_iff_mul-le)
 
 digit_next : (m d : ℕ) (bs : List ℕ) → d < 10 → digits_after m ((48 + d) ∷ bs) ≡ digits_after (10 * m + d) bs
-digit_next m d bs small =
-    let digit : is_digit (48 + d) ≡ true = and_from _ _ (le-leb 48 (48 + d) (omega arith)) (le-leb (48 + d) 57 (omega arith)) in
-    let value : 48 + d - 48 ≡ d = omega arith in
-    rw (digit, value)
+digit_next m d bs small = grind (arith, common_steps)
 
 tail_read : (k n : ℕ) → 10 ^ k ≤ n → digits_after (n / 10 ^ suc k) (wide k n) ≡ Some n
 unfolding wide
@@ -42,7 +40,7 @@ tail_read (suc k) n low =
 
 -- a first digit is no space, no minus and no zero
 first_digit : (b : ℕ) (bs : List ℕ) → 49 ≤ b → number_in (b ∷ bs) ≡ option_map pos (digits_after 0 (b ∷ bs))
-first_digit b bs high = rw (ne_eqb b 32 (λ e. omega arith), ne_eqb b 45 (λ e. omega arith), ne_eqb b 48 (λ e. omega arith))
+first_digit b bs high = grind (arith, common_steps)
 
 number_read : (k n : ℕ) → n < 10 ^ suc k → number_in (wide k n) ≡ Some (pos n)
 unfolding wide
@@ -70,13 +68,7 @@ number_read (suc k) n small =
 
 digit_split : (b : ℕ) (bs : List ℕ) (m n : ℕ) → digits_after m (b ∷ bs) ≡ Some n →
     (48 ≤ b) × (b ≤ 57) × (digits_after (10 * m + (b - 48)) bs ≡ Some n)
-digit_split b bs m n is =
-    elim (cases_Bool (is_digit b)) [
-      | inl digit ↦
-          let both = and_parts (leb 48 b) (leb b 57) digit in
-          (leb-true 48 b both.0, leb-true b 57 both.1, rw digit at is)
-      | inr other ↦ let e = rw other at is in cc
-    ]
+digit_split b bs m n is = grind (arith, common_steps)
 
 -- in front of the digits read last stand those of m
 digits_back : (bs : List ℕ) (m n : ℕ) → digits_after m bs ≡ Some n → n / 10 ^ length bs ≡ m
@@ -100,14 +92,10 @@ digits_wide b (c ∷ cs) m n is low =
     (digits_wide c cs (10 * m + (b - 48)) n split.2 (omega (arith, pow-suc 10 (length cs))))
 
 negative_never : (o : Option ℕ) (n : ℕ) → negative o ≡ Some (pos n) → ⊥
-negative_never None n is = cc
-negative_never (Some zero) n is = cc
-negative_never (Some (suc m)) n is =
-    let minus : Some (negsuc m) ≡ Some (pos n) = rw (ne_eqb (suc m) 0 (λ e. omega arith)) at is in cc
+negative_never o n is = grind (arith, common_steps)
 
 mapped_pos : (o : Option ℕ) (n : ℕ) → option_map pos o ≡ Some (pos n) → o ≡ Some n
-mapped_pos None n is = cc
-mapped_pos (Some m) n is = cc
+mapped_pos o n is = grind (arith, common_steps)
 
 -- a text of these bytes is how the number is printed at that width
 abbrev Printed : List ℕ → ℕ → ℕ → Type 0
@@ -115,8 +103,7 @@ Printed bytes k n = (bytes ≡ wide k n) × (n < 10 ^ suc k)
 
 zero_back : (bs : List ℕ) (n : ℕ) → zero_then bs ≡ Some n → Printed (48 ∷ bs) (length bs) n
 unfolding wide
-zero_back [] n is = let none : 0 ≡ n = cc in (ap (λ d. d ∷ []) (omega arith), omega arith)
-zero_back (b ∷ bs) n is = cc
+zero_back bs n is = grind (arith, common_steps)
 
 natural_back : (b : ℕ) (bs : List ℕ) (n : ℕ) → natural_in (b ∷ bs) ≡ Some n → Printed (b ∷ bs) (length bs) n
 natural_back b bs n is =

@@ -1,12 +1,12 @@
 -- The shape of a report.
-use Rattle.std.proofs.Common.{◌≡◌, ℕ, suc, ◌+◌, ltb, List, [], ◌∷◌, ◌++◌, map, length, Ok, Err, refl, ap, ◌∙◌, inl, inr, arith}
+use Rattle.std.proofs.Common.{◌≡◌, ℕ, suc, ◌+◌, List, [], ◌∷◌, ◌++◌, map, length, Ok, Err, refl, ap, ◌∙◌, arith}
 use Rattle.std.specs.List.{flat_map, AllByRecursion}
 use Rattle.std.proofs.lemmas.List.{length-map}
-use Rattle.std.proofs.lemmas.Bool.{cases_Bool, ltb-true, ltb-false}
+use Rattle.std.proofs.lemmas.Grind.{common_steps}
 use Rattle.workshop.specs.declared.rows.Row.{Row}
 use Rattle.workshop.specs.Acts.{Done}
 use Rattle.workshop.specs.Columns.{column_of}
-use Rattle.workshop.specs.Lines.{lines_in, line_feeds, ends_line, ended}
+use Rattle.workshop.specs.Lines.{lines_in, line_feeds, ended}
 use Rattle.workshop.specs.Rows.{row_numbers, row_bytes}
 use Rattle.workshop.specs.Report.{file_gate, rows_from, gated_rows, report_rows}
 use Rattle.workshop.specs.Shape.{Answerable, NumberedFrom, ReportsShaped}
@@ -40,11 +40,10 @@ rows_numbered n s [] = tt
 rows_numbered n s (l ∷ ls) = (refl, rows_numbered (n + 1) (step s l).0 ls)
 
 answered : (file : List ℕ) → Answerable file → file_gate file ≡ Ok tt
-answered file (few, whole) =
-    elim (cases_Bool (ltb 65536 (length file))) [
-      | inl b ↦ absurd (omega (arith, ltb-true 65536 (length file) b))
-      | inr b ↦ rw (b, whole)
-    ]
+answered file (few, whole) = grind (arith, common_steps)
+
+passed : (file : List ℕ) → file_gate file ≡ Ok tt → Answerable file
+passed file is = grind (arith, common_steps)
 
 module _ (file : List ℕ) where
   -- what holds of the rows of either kind of file
@@ -59,17 +58,6 @@ module _ (file : List ℕ) where
     λ yes. let e = from yes in cc,
     λ _. (refl, (refl, tt)),
   )
-
-  passed : file_gate file ≡ Ok tt → Answerable file
-  passed e =
-      elim (cases_Bool (ltb 65536 (length file))) [
-        | inl b ↦ let no = rw b at e in cc
-        | inr b ↦
-            elim (cases_Bool (ends_line file)) [
-              | inl w ↦ (omega (arith, ltb-false 65536 (length file) b), w)
-              | inr w ↦ let no = rw (b, w) at e in cc
-            ]
-      ]
 
 pub reports_shaped : ReportsShaped
 unfolding ReportsShaped
