@@ -2,7 +2,7 @@
 use Rattle.std.proofs.Common.{◌≡◌, ℕ, zero, suc, ◌+◌, ◌-◌, ◌*◌, ◌/◌, ◌%◌, ◌^◌, ◌<◌, ◌≤◌, eqb, ◌≢◌, List, [], ◌∷◌, map, length, pos, Some, Ok, Option, sym, refl, ap, ◌∙◌, inl, inr, div-lt_iff_lt-mul, pow-suc, le-div_iff_mul-le, div-one, arith, lit<}
 use native.Mathlib.Nat.{div-div-eq-div-mul, one-le-pow}
 use Rattle.std.proofs.lemmas.Grind.{common_steps}
-use Rattle.std.proofs.lemmas.Bool.{cases_Bool, cases_lt, cases_eq, eqb-true, eqb-false, lt-ltb, le-ltb}
+use Rattle.std.proofs.lemmas.Bool.{cases_Bool, cases_lt, eqb-true, eqb-false, lt-ltb, le-ltb}
 use Rattle.std.specs.Option.{option_map, ok_or}
 use Rattle.std.specs.List.{flat_map, AllByRecursion}
 use Rattle.workshop.specs.Columns.{ColumnsAgree, ColumnsSideBySide, column_of, digit_at, digits_after, fields_in, natural_in, negative, number_in, number_then, numbers_from, signed_in, zero_then}
@@ -19,7 +19,7 @@ ten_pos : (k : ℕ) → 0 < 10 ^ k
 ten_pos k = one-le-pow k 10 (lit< tt)
 
 reached : (n k : ℕ) → 10 ^ k ≤ n → 1 ≤ n / 10 ^ k
-reached n k low = (le-div_iff_mul-le (ten_pos k)).1 (omega arith)
+reached n k low = grind (arith, common_steps, one-le-pow, le-div_iff_mul-le)
 
 reaches : (n k : ℕ) → 1 ≤ n / 10 ^ k → 10 ^ k ≤ n
 reaches n k some = grind (arith, common_steps, one-le-pow, le-div_iff_mul-le)
@@ -44,14 +44,7 @@ first_digit b bs high = grind (arith, common_steps)
 
 number_read : (k n : ℕ) → n < 10 ^ suc k → number_in (wide k n) ≡ Some (pos n)
 unfolding wide
-number_read zero n small =
-    elim (cases_eq n 0) [
-      | inl none ↦ rw none
-      | inr some ↦
-          let digit : n % 10 ≡ n = omega arith in
-          first_digit (48 + n % 10) [] (omega arith)
-          ∙ ap (option_map pos) (digit_next 0 (n % 10) [] (omega arith) ∙ ap Some (omega arith))
-    ]
+number_read zero n small = grind (arith, common_steps)
 number_read (suc k) n small =
     elim (cases_lt n (10 ^ suc k)) [
       | inl under ↦ rw (lt-ltb n (10 ^ suc k) under) (number_read k n under)
@@ -72,17 +65,14 @@ digit_split b bs m n is = grind (arith, common_steps)
 
 -- in front of the digits read last stand those of m
 digits_back : (bs : List ℕ) (m n : ℕ) → digits_after m bs ≡ Some n → n / 10 ^ length bs ≡ m
-digits_back [] m n is = let same : m ≡ n = cc in div-one n ∙ sym same
+digits_back [] m n is = grind (arith, common_steps, div-one)
 digits_back (b ∷ bs) m n is =
     let split = digit_split b bs m n is in
     ten_div n (length bs) ∙ omega (arith, digits_back bs (10 * m + (b - 48)) n split.2)
 
 digits_wide : (b : ℕ) (bs : List ℕ) (m n : ℕ) → digits_after m (b ∷ bs) ≡ Some n → 10 ^ length bs ≤ n → b ∷ bs ≡ wide (length bs) n
 unfolding wide
-digits_wide b [] m n is low =
-    let split = digit_split b [] m n is in
-    let same : 10 * m + (b - 48) ≡ n = cc split.2 in
-    ap (λ d. d ∷ []) (omega arith)
+digits_wide b [] m n is low = grind (arith, common_steps)
 digits_wide b (c ∷ cs) m n is low =
     let split = digit_split b (c ∷ cs) m n is in
     let front = digits_back (c ∷ cs) (10 * m + (b - 48)) n split.2 in
@@ -129,11 +119,7 @@ unspaced_back b bs n is =
 
 number_back : (b : ℕ) (bs : List ℕ) (n : ℕ) → number_in (b ∷ bs) ≡ Some (pos n) → Printed (b ∷ bs) (length bs) n
 unfolding wide
-number_back b [] n is =
-    elim (cases_Bool (eqb b 32)) [
-      | inl space ↦ let e = rw space at is in cc
-      | inr other ↦ unspaced_back b [] n (rw other at is)
-    ]
+number_back b [] n is = grind (arith, common_steps, unspaced_back)
 number_back b (c ∷ cs) n is =
     elim (cases_Bool (eqb b 32)) [
       | inl space ↦

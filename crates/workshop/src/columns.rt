@@ -9,7 +9,7 @@ pub(crate) const WIDTH: usize = 6;
 pub type Field = [u8; WIDTH];
 
 // The first field, counted from 1, that holds no number.
-#[derive(Debug, Clone, Copy, PartialEq, Eq)]
+#[derive(Clone, Copy, Debug, PartialEq, Eq)]
 pub struct IllFormed {
     pub field: u8,
 }

@@ -6,7 +6,7 @@ use book::refusals::Refusal;
 use parts::limits::OutOfLimits;
 
 // Why a file, a line or an act was refused.
-#[derive(Clone, Copy)]
+#[derive(Clone, Copy, Debug, PartialEq, Eq)]
 pub enum Fault {
     // the line is empty, or begins with no letter that is known
     NoLetter,
