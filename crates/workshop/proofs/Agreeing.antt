@@ -139,12 +139,13 @@ only_column n (b ∷ bs) long is =
     (number_back b bs n is).0 ∙ ap (λ k. wide k n) five
 
 pub columns_agree : ColumnsAgree
-unfolding wide
+unfolding ColumnsAgree wide
 columns_agree n small = (number_read 5 n (omega arith), only_column n)
 
 -- columns side by side are read again, in their order
 columns_behind : (i : ℕ) (ns : List ℕ) → AllByRecursion (λ n. n ≤ 999999) ns →
     numbers_from i (fields_in (length ns) (flat_map column_of ns)) ≡ Ok (map pos ns)
+unfolding ColumnsAgree
 columns_behind i [] small = refl
 columns_behind i (n ∷ ns) (first, small) =
     ap (λ o. number_then (ok_or o (record { field = i })) (numbers_from (i + 1) (fields_in (length ns) (flat_map column_of ns)))) (columns_agree n first).0

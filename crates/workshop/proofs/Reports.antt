@@ -34,9 +34,9 @@ module _ (text : List ℕ) where
         (t, d) ≡ step s line → after ≡ before ++ row_bytes (row_of (i + 1) d) → after ++ rows_left (k + 1) t ≡ whole
     row_more i line t d after turn stepped printed =
         let more : k < length lines = omega (arith, turn.0, length-enumerate_from 0 lines) in
-        let here : (i, line) ≡ (0 + k, get_or lines k line) = turn.1 ∙ get_or-enumerate_from 0 lines k (i, line) more in
+        let here : ◌≡◌ {A = ℕ × List ℕ} (i, line) (0 + k, get_or lines k line) = turn.1 ∙ get_or-enumerate_from 0 lines k (i, line) more in
         let i-is : i ≡ k = omega (arith, ap (λ (p : ℕ × List ℕ). p.0) here) in
-        let taken : (t, d) ≡ step s (get_or lines k line) = stepped ∙ ap (λ (p : ℕ × List ℕ). step s p.1) here in
+        let taken : ◌≡◌ {A = Step} (t, d) (step s (get_or lines k line)) = stepped ∙ ap (λ (p : ℕ × List ℕ). step s p.1) here in
         let cut = at_drop_more (λ ls. flat_map row_bytes (rows_from (k + 1) s ls)) lines k line more in
         let joined = append_assoc before (row_bytes (row_of (k + 1) d)) (rows_left (k + 1) t) in
         let same = ap (λ (p : Step). before ++ (row_bytes (row_of (k + 1) p.1) ++ rows_left (k + 1) p.0)) taken in

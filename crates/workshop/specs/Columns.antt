@@ -77,7 +77,7 @@ column_of n =
     digit_at n 100000 ∷ digit_at n 10000 ∷ digit_at n 1000 ∷ digit_at n 100 ∷ digit_at n 10 ∷ (48 + n % 10) ∷ []
 
 -- Printing and reading agree: what is printed is read again, and nothing else is read as that number.
-abbrev pub ColumnsAgree : Type 0
+unfoldable pub ColumnsAgree : Type 0
 ColumnsAgree = (n : ℕ) → n ≤ 999999 →
     (number_in (column_of n) ≡ Some (pos n))
     × ((bytes : List ℕ) → length bytes ≡ 6 → number_in bytes ≡ Some (pos n) → bytes ≡ column_of n)

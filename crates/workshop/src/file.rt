@@ -15,14 +15,15 @@ use std::alloc::{AllocError, Global};
 // A file of more bytes is not read.
 pub const LONGEST: usize = 65_536;
 
-// The report of a file's bytes.
+// The report of a file's bytes, with what holds of every report.
+#[tactic(auto, using(crate::proofs::Shapes::reports_shaped, crate::proofs::Agreeing::columns_agree, crate::proofs::Agreeing::columns_side_by_side))]
 pub fn report(heap: Global, file: &[u8]) -> Result<Vec<u8>, AllocError>
     ensures bytes { IfOk result (λ v. v.items ≡ report_of file.now) }
     ensures shape { ReportsShaped }
     ensures columns { ColumnsAgree }
     ensures lines { ColumnsSideBySide }
 {
-    let mut report = begun_report(heap);
+    let mut report = Vec::new(heap);
     match checked(file) {
         Ok(text) => print_lines(text, &mut report)?,
         Err(fault) => Row {
@@ -32,16 +33,6 @@ pub fn report(heap: Global, file: &[u8]) -> Result<Vec<u8>, AllocError>
         .print(&mut report)?,
     }
     Ok(report)
-}
-
-// A report without a row; what holds of every report is shown here.
-fn begun_report(heap: Global) -> Vec<u8>
-    ensures items { result.items ≡ [] }
-    ensures shape { ReportsShaped }
-    ensures columns { ColumnsAgree }
-    ensures lines { ColumnsSideBySide }
-{
-    Vec::new(heap)
 }
 
 // The file's text without its last line feed, or why it is not read.
