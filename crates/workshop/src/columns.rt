@@ -32,6 +32,7 @@ fn number(field: &Field) -> Option<i32>
     signed(skip_spaces(field))
 }
 
+// By hand: `trim_ascii_start` takes tabs and line ends too.
 fn skip_spaces(field: &[u8]) -> &[u8]
     ensures rest { result.now ≡ behind_spaces field.now }
     ensures shorter { length result.now ≤ length field.now }

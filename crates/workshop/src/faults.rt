@@ -73,6 +73,6 @@ impl From<OutOfLimits> for Fault {
     ghost from_gives = { λ e r. r ≡ of_choice e };
 
     fn from(fault: OutOfLimits) -> Fault {
-        Fault::Refused(Refusal::OutOfLimits(fault.field))
+        Fault::Refused(Refusal::from(fault))
     }
 }

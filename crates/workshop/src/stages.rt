@@ -1,6 +1,5 @@
 ghost use Rattle.std.specs.Prelude.{◌≡◌};
-ghost use Rattle.book.specs.Tables.{empty_tables};
-ghost use Rattle.workshop.specs.Stages.{all_places, state_of, outcome, step};
+ghost use Rattle.workshop.specs.Stages.{state_of, outcome, step};
 
 use crate::columns::numbers;
 use crate::faults::Fault;
@@ -22,23 +21,16 @@ pub enum Stage {
 }
 
 // The program's books have all the places there are.
-fn begun(choice: Rules) -> Drafting<Rules>
-    ensures annex { result.annex ≡ choice }
-    ensures tables { result.tables ≡ empty_tables all_places }
-{
-    Drafting::begin(
-        choice,
-        Places {
-            plates: 50,
-            bolt_groups: 50,
-            welds: 50,
-            loads: 200,
-        },
-    )
-}
+const ALL_PLACES: Places = Places {
+    plates: 50,
+    bolt_groups: 50,
+    welds: 50,
+    loads: 200,
+};
 
 impl Stage {
-    // What a line does, and what is answered to it. A stage is moved on, so that one that is left cannot be used again.
+    // What a line does, and what is answered to it.
+    // By value, though `act` writes in place: a stage that is left cannot be used again.
     pub(crate) fn answer(mut self, line: &[u8]) -> (Stage, Result<(), Fault>)
         ensures { outcome result ≡ step (state_of self) line.now }
     {
@@ -53,7 +45,7 @@ impl Stage {
         match (&mut *self, Line::read(line)?) {
             (Stage::Start, Line::Annex(fields)) => {
                 let entry = AnnexEntry::from(numbers(fields)?);
-                *self = Stage::Drafting(begun(entry.checked()?));
+                *self = Stage::Drafting(Drafting::begin(entry.checked()?, ALL_PLACES));
                 Ok(())
             }
             (Stage::Drafting(book), Line::Plate(fields)) => {
