@@ -14,7 +14,8 @@ pub struct IllFormed {
     pub field: u8,
 }
 
-// Tried and not proved: `try_from_fn`, whose contract does not say which of several errors comes back.
+// The numbers of the fields, or the first that holds none.
+// Not by `try_from_fn`, with which this is not proved: its contract leaves open which of several errors comes back.
 pub(crate) fn numbers<const N: usize>(fields: &[Field; N]) -> Result<[i32; N], IllFormed>
     requires { N < 256 }
     ensures { result ≡ numbers_of fields.now }

@@ -20,6 +20,7 @@ pub enum Line<'a> {
 }
 
 impl<'a> Line<'a> {
+    // A known letter decides how many fields have to follow it.
     pub(crate) fn read(line: &'a [u8]) -> Result<Line<'a>, Fault>
         ensures { MatchResult result (λ l. line_read line.now ≡ Ok (asked l)) (λ f. line_read line.now ≡ Err f) }
     {
