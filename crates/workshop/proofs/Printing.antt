@@ -1,5 +1,5 @@
 -- Columns and rows printed.
-use Rattle.std.proofs.Common.{◌≡◌, ℕ, ◌<◌, List, [], ◌∷◌, ◌++◌, map, length, get_or, refl, append_assoc, arith}
+use Rattle.std.proofs.Common.{◌≡◌, ℕ, ◌<◌, List, [], ◌∷◌, ◌++◌, map, length, get_or, refl, arith}
 use Rattle.std.specs.List.{flat_map}
 use Rattle.std.proofs.lemmas.Grind.{common_steps}
 use Rattle.std.proofs.lemmas.List.{get_or-map, length-map, same_lists}
@@ -24,11 +24,10 @@ pub columns_each : (ns : List ℕ) (columns : List (List ℕ)) → length column
     ((k : ℕ) (d : List ℕ) → k < length ns → get_or columns k d ≡ column_of (get_or ns k 0)) → columns ≡ map column_of ns
 columns_each ns columns long each = grind (arith, common_steps, same_lists, get_or-map, length-map)
 
--- a report with a row's columns and a line feed behind it
-pub row_printed : (r : Row) (columns : List (List ℕ)) (before between after : List ℕ) → columns ≡ map column_of (row_numbers r) →
-    between ≡ before ++ flat_map (λ x. x) columns → after ≡ between ++ 10 ∷ [] → after ≡ before ++ row_bytes r
+-- a row's columns and a line feed behind them
+pub row_printed : (r : Row) (columns : List (List ℕ)) (front : List ℕ) → columns ≡ map column_of (row_numbers r) →
+    front ≡ flat_map (λ x. x) columns → front ++ 10 ∷ [] ≡ row_bytes r
 unfolding row_bytes
-row_printed r columns before between after are first last =
+row_printed r columns front are first =
     let flat = flat_map-map (λ (x : List ℕ). x) column_of (row_numbers r) in
-    let joined = append_assoc before (flat_map column_of (row_numbers r)) (10 ∷ []) in
     cc

@@ -41,8 +41,10 @@ fn checked(file: &[u8]) -> Result<&[u8], Fault>
     ensures text { IfOk result (λ t. file.now ≡ ended t.now) }
     ensures short { IfOk result (λ t. length t.now < 65536) }
 {
+    if file.len() > LONGEST {
+        return Err(Fault::TooLong);
+    }
     match file {
-        _ if file.len() > LONGEST => Err(Fault::TooLong),
         [text @ .., b'\n'] => Ok(text),
         _ => Err(Fault::Unfinished),
     }

@@ -1,11 +1,15 @@
 // Rows of the report.
-ghost use Rattle.std.specs.Prelude.{◌≡◌, ◌++◌, map, OnOk};
+ghost use Rattle.std.specs.Prelude.{◌≡◌, ◌++◌, map, is_ok, if◌then◌else◌};
 ghost use Rattle.workshop.specs.Columns.{column_of};
 ghost use Rattle.workshop.specs.Rows.{row_bytes, row_numbers};
 
-use crate::columns::{Field, column};
+use crate::columns::{Field, WIDTH, column};
 use crate::faults::Fault;
 use std::alloc::AllocError;
+
+const COLUMNS: usize = 6;
+
+const LENGTH: usize = COLUMNS * WIDTH + 1;
 
 // What was answered to a line of the file.
 #[derive(Clone, Copy)]
@@ -15,23 +19,30 @@ pub struct Row {
 }
 
 impl Row {
-    // Adds six columns and a line feed to the report.
+    // Adds the row to the report, whole or not at all.
     pub(crate) fn print(&self, report: &mut Vec<u8>) -> Result<(), AllocError>
-        ensures { OnOk result (report.new.items ≡ report.old.items ++ row_bytes self.now) }
+        ensures { report.new.items ≡ (if is_ok result then report.old.items ++ row_bytes self.now else report.old.items) }
     {
-        report.extend_from_slice(self.columns().as_flattened())?;
-        report.push(b'\n')?;
-        Ok(())
+        report.extend_from_slice(&self.bytes())
     }
 
-    fn columns(&self) -> [Field; 6]
+    // Six columns and a line feed.
+    fn bytes(&self) -> [u8; LENGTH]
+        ensures { result ≡ row_bytes self.now }
+    {
+        let mut bytes = [b'\n'; LENGTH];
+        bytes[..COLUMNS * WIDTH].copy_from_slice(self.columns().as_flattened());
+        bytes
+    }
+
+    fn columns(&self) -> [Field; COLUMNS]
         ensures { result ≡ map column_of (row_numbers self.now) }
     {
         self.numbers().map(column)
     }
 
     // The sheet comes last, and no answer has one yet.
-    fn numbers(&self) -> [u32; 6]
+    fn numbers(&self) -> [u32; COLUMNS]
         ensures { result ≡ row_numbers self.now }
     {
         let (answer, [first, second, third]) = match self.answer {
