@@ -87,10 +87,7 @@ fn value(digits: &[u8]) -> Option<u32>
 {
     let mut value = 0;
     for digit in digits {
-        if !digit.is_ascii_digit() {
-            return None;
-        }
-        value = 10 * value + (*digit - b'0') as u32;
+        value = 10 * value + char::from(*digit).to_digit(10)?;
     }
     Some(value)
 }
