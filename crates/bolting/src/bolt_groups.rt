@@ -175,8 +175,8 @@ impl BoltGroupEntry {
     fn checked_layout(&self) -> Result<BoltLayout, OutOfLimits>
         ensures { result ≡ layout_checked self.now }
     {
-        let size = BoltSize::try_from(self.size).or(Err(OutOfLimits { field: 4 }))?;
-        let class = BoltClass::try_from(self.class).or(Err(OutOfLimits { field: 5 }))?;
+        let size = BoltSize::try_from(self.size).map_err(|_| OutOfLimits { field: 4 })?;
+        let class = BoltClass::try_from(self.class).map_err(|_| OutOfLimits { field: 5 })?;
         let rows = limited(self.rows, 1, 10).ok_or(OutOfLimits { field: 6 })? as u8;
         let columns = limited(self.columns, 1, 4).ok_or(OutOfLimits { field: 7 })? as u8;
         let e1 = limited(self.e1, 1, 400).ok_or(OutOfLimits { field: 8 })?;

@@ -58,7 +58,7 @@ impl Entry for AnnexEntry {
     ghost checked = { annex_checked };
 
     fn checked(&self) -> Result<Rules, OutOfLimits> {
-        let make = Make::try_from(self.make).or(Err(OutOfLimits { field: 1 }))?;
+        let make = Make::try_from(self.make).map_err(|_| OutOfLimits { field: 1 })?;
         let factors = Factors::new(self.gamma_m0, self.gamma_m2)?;
         Ok(Rules { make, factors })
     }

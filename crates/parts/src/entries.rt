@@ -3,7 +3,8 @@ ghost use Rattle.parts.specs.declared.limits.OutOfLimits.{OutOfLimits};
 
 use crate::limits::OutOfLimits;
 
-// What a line of a file enters: numbers as they come, which make a record where they are within their limits.
+// What a line of a file enters: numbers as they come, which make a record where they are within their
+// limits.
 pub trait Entry {
     type Record;
 

@@ -7,11 +7,13 @@ pub struct OutOfLimits {
     pub field: u8,
 }
 
-// The value, where it is from `low` to `high`.
+// The value, where it is from `low` to `high`. A field of a byte narrows it by `as`, which is proved to lose nothing.
 pub fn limited(value: i32, low: u16, high: u16) -> Option<u16>
     ensures { result ≡ within low high value }
 {
-    u16::try_from(value).ok().filter(|&n| low <= n && n <= high)
+    u16::try_from(value)
+        .ok()
+        .filter(|n| (low..=high).contains(n))
 }
 
 // A mark or a load number.

@@ -12,7 +12,8 @@ pub struct ComponentMarks {
 }
 
 impl ComponentMarks {
-    // The marks, or the first that is outside its limits: they are fields 1 to 3 of a component's entry.
+    // The component's own mark with those of its plates, or the first that is outside its limits: they are fields 1
+    // to 3 of a component's entry.
     pub fn new(own: i32, plate_a: i32, plate_b: i32) -> Result<ComponentMarks, OutOfLimits>
         ensures { result ≡ marks_checked own plate_a plate_b }
     {

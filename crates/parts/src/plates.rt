@@ -53,7 +53,7 @@ impl Entry for PlateEntry {
     fn checked(&self) -> Result<Plate, OutOfLimits> {
         let mark = mark(self.mark).ok_or(OutOfLimits { field: 1 })?;
         let thickness = limited(self.thickness, 4, 40).ok_or(OutOfLimits { field: 2 })? as u8;
-        let grade = Grade::try_from(self.grade).or(Err(OutOfLimits { field: 3 }))?;
+        let grade = Grade::try_from(self.grade).map_err(|_| OutOfLimits { field: 3 })?;
         Ok(Plate {
             mark,
             thickness,

@@ -3,8 +3,8 @@ ghost use Rattle.stock.specs.Tables.{Names, make_numbered};
 
 use crate::listed::NotListed;
 
-// The set of rules that a joint is judged by: EN 1993-1-8 with its own values, or SE-A, the steel part of
-// the Spanish building code.
+// The standard that a joint is judged by: EN 1993-1-8 with its own values, or SE-A, the steel part of the
+// Spanish building code.
 #[derive(Clone, Copy, Debug, PartialEq, Eq)]
 pub enum Make {
     En,

@@ -32,7 +32,7 @@ fn done(book: &mut Drafting<()>, deed: Deed) -> Result<(), Refusal> {
     }
 }
 
-// The number of an answer and its first detail.
+// The number of an answer and its first detail, as the report prints them; 0 is done.
 fn told(answer: Result<(), Refusal>) -> (u8, u16) {
     match answer {
         Ok(()) => (0, 0),

@@ -7,7 +7,8 @@ use parts::plates::PlateEntry;
 use parts::welds::WeldEntry;
 use std::process::Abort;
 
-// Does each row of numbers, as an entry, have the field outside its limits that stands beside it, or none (0)?
+// Does each row of numbers, as an entry, have the field outside its limits that stands beside it? Fields
+// count from 1, and 0 stands for none.
 fn check_limits<E: Entry + From<[i32; N]> + Copy, const N: usize>(
     rt: &impl Abort,
     cases: &[([i32; N], u8)],
