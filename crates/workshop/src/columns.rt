@@ -8,7 +8,7 @@ pub(crate) const WIDTH: usize = 6;
 // A field of a line, or a column of the report.
 pub type Field = [u8; WIDTH];
 
-// The first field, counted from 1, that holds no number.
+// The first field, counted from 1, that holds no number. A type beside `OutOfLimits`, so that `?` tells the two.
 #[derive(Clone, Copy, Debug, PartialEq, Eq)]
 pub struct IllFormed {
     pub field: u8,
@@ -16,6 +16,7 @@ pub struct IllFormed {
 
 // The numbers of the fields, or the first that holds none.
 // Not by `try_from_fn`, with which this is not proved: its contract leaves open which of several errors comes back.
+// Nor by `iter_mut`, whose writes through `zip` the proof does not see.
 pub(crate) fn numbers<const N: usize>(fields: &[Field; N]) -> Result<[i32; N], IllFormed>
     requires { N < 256 }
     ensures { result ≡ numbers_of fields.now }
@@ -45,6 +46,7 @@ fn skip_spaces(field: &[u8]) -> &[u8]
     rest
 }
 
+// A part of a field is short, here and below: a type for short text would have to cut it by hand.
 fn signed(text: &[u8]) -> Option<i32>
     requires { length text.now ≤ 6 }
     ensures { result ≡ signed_in text.now }

@@ -12,7 +12,7 @@ use parts::entries::Entry;
 use parts::plates::PlateEntry;
 use parts::welds::WeldEntry;
 
-// How far a file has come.
+// How far a file has come. No `Option` of a book: a stage has a name, by which it is matched with the letter.
 #[derive(Drop)]
 pub enum Stage {
     // no annex is chosen yet
