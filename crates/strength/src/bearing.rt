@@ -2,7 +2,7 @@
 ghost use Rattle.std.specs.Prelude.{◌≡◌, ◌*◌, pos, ◌-ℤ◌, ◌*ℤ◌, int_le};
 ghost use Rattle.strength.specs.Bearing.{least_with_pitch, end_ratio, bearing_stress, full_edge_ratio, en_edge_ratio, edge_ratio, bearing_weight, bearing_area, bearing_met};
 
-use crate::bolts::LoadedBolts;
+use crate::loaded::Loaded;
 use bolting::bolt_groups::{BoltLayout, Direction, Spacing};
 use parts::annexes::Rules;
 use parts::plates::Plate;
@@ -40,12 +40,11 @@ fn full_edge_ratio(hole: u8) -> i32
     i32::from(25 * u16::from(hole))
 }
 
-// A quotient of the factor k1 under EN, weight·distance/(10·d0) − 1.7, times 10·d0.
+// A term of the factor k1 under EN, weight·distance/(10·d0) − 1.7, times 10·d0.
 fn en_edge_term(weight: u8, distance: u16, hole: u8) -> i32
     ensures { result ≡ pos (weight * distance) -ℤ pos (17 * hole) }
 {
-    let weighted = u32::from(weight) * u32::from(distance);
-    weighted as i32 - 17 * i32::from(hole)
+    i32::from(weight) * i32::from(distance) - 17 * i32::from(hole)
 }
 
 // The factor k1 under EN, times 10·d0.
@@ -66,21 +65,21 @@ fn edge_ratio(make: Make, spacing: Spacing, hole: u8) -> i32
     }
 }
 
-impl LoadedBolts<'_> {
+impl Loaded<'_, BoltLayout> {
     // Do the bolts bear on the plate in the direction of one of the forces?
     pub(crate) fn bearing_met(&self, plate: Plate, direction: Direction) -> bool
-        ensures { result ≡ bearing_met self.now.rules self.now.layout.now plate direction self.now.forces.sizes }
+        ensures { result ≡ bearing_met self.now.rules self.now.fastening.now plate direction self.now.forces.sizes }
     {
         let Rules { make, factors } = self.rules;
-        let hole = self.layout.size.hole();
+        let hole = self.fastening.size.hole();
         let stress = bearing_stress(
-            self.layout.spacing(direction),
+            self.fastening.spacing(direction),
             hole,
-            self.layout.class.ultimate_strength(),
+            self.fastening.class.ultimate_strength(),
             plate.grade.ultimate_strength(make),
         );
-        let edge = edge_ratio(make, self.layout.spacing(direction.other()), hole);
-        let section = product_i64(bearing_area(self.layout, plate), edge);
+        let edge = edge_ratio(make, self.fastening.spacing(direction.other()), hole);
+        let section = product_i64(bearing_area(self.fastening, plate), edge);
         let resistance = product_i128(stress, section);
         let weight = u64::from(bearing_weight(factors.gamma_m2, hole));
         let force = weight * u64::from(self.forces.sizes.in_direction(direction));
