@@ -1,5 +1,5 @@
 // What the strength clauses judge.
-ghost use Rattle.std.specs.Prelude.{◌≡◌, false, MatchOption};
+ghost use Rattle.std.specs.Prelude.{◌≡◌, ◌↔◌, false, IsNone, IfSome};
 ghost use Rattle.strength.specs.Strength.{in_range};
 
 use crate::forces::Forces;
@@ -23,8 +23,11 @@ impl<'a, T> Loaded<'a, T> {
         plates: &'a Plates,
         sizes: Sizes,
     ) -> Option<Loaded<'a, T>>
-        ensures { MatchOption result (in_range sizes ≡ false) (λ loaded.
-            (loaded.rules ≡ rules) × (loaded.fastening.now ≡ fastening.now) × (loaded.plates.now ≡ plates.now) × (loaded.forces.sizes ≡ sizes)) }
+        ensures past { IsNone result ↔ (in_range sizes ≡ false) }
+        ensures rules { IfSome result (λ loaded. loaded.rules ≡ rules) }
+        ensures fastening { IfSome result (λ loaded. loaded.fastening.now ≡ fastening.now) }
+        ensures plates { IfSome result (λ loaded. loaded.plates.now ≡ plates.now) }
+        ensures sizes { IfSome result (λ loaded. loaded.forces.sizes ≡ sizes) }
     {
         let forces = Forces::new(sizes)?;
         Some(Loaded {
