@@ -1,5 +1,7 @@
 // Bearing of the bolts on a plate.
 ghost use Rattle.std.specs.Prelude.{◌≡◌, ◌*◌, pos, ◌-ℤ◌, ◌*ℤ◌, int_le};
+ghost use Rattle.stock.specs.Tables.{hole_diameter};
+ghost use Rattle.bolting.specs.Layouts.{spacing_in};
 ghost use Rattle.strength.specs.Bearing.{least_with_pitch, end_ratio, bearing_stress, full_edge_ratio, en_edge_ratio, edge_ratio, bearing_weight, bearing_area, bearing_met};
 
 use crate::loaded::Loaded;
@@ -16,6 +18,16 @@ struct Holes {
 }
 
 impl Holes {
+    fn new(layout: &BoltLayout, direction: Direction) -> Holes
+        ensures spacing { result.spacing ≡ spacing_in direction layout.now }
+        ensures diameter { result.diameter ≡ hole_diameter layout.now.size }
+    {
+        Holes {
+            spacing: layout.spacing(direction),
+            diameter: layout.size.hole(),
+        }
+    }
+
     // The least of `x` and of the pitch's term, which a line alone does not have.
     fn least_with_pitch(self, term: i32, x: i32) -> i32
         ensures { result ≡ least_with_pitch self.spacing term x }
@@ -87,20 +99,13 @@ impl Loaded<'_, BoltLayout> {
     {
         let Rules { make, factors } = self.rules;
         let layout = self.fastening;
-        let diameter = layout.size.hole();
-        let along_force = Holes {
-            spacing: layout.spacing(direction),
-            diameter,
-        };
-        let across_force = Holes {
-            spacing: layout.spacing(direction.other()),
-            diameter,
-        };
+        let along_force = Holes::new(layout, direction);
+        let across_force = Holes::new(layout, direction.other());
         let ultimate = plate.grade.ultimate_strength(make);
         let stress = along_force.bearing_stress(layout.class.ultimate_strength(), ultimate);
         let section = product_i64(bearing_area(layout, plate), across_force.edge_ratio(make));
         let resistance = product_i128(stress, section);
-        let weight = u64::from(bearing_weight(factors.gamma_m2, diameter));
+        let weight = u64::from(bearing_weight(factors.gamma_m2, along_force.diameter));
         let force = weight * u64::from(self.forces.sizes.in_direction(direction));
         within(force, resistance)
     }
