@@ -53,7 +53,7 @@ impl Annex for Rules {
 
 // The annex that an entry chooses, or its first field outside the limits.
 #[tactic(auto, using(crate::specs::FactsLemmas::stricter, crate::proofs::Worked::worked_joints))]
-pub fn of_entry(entry: AnnexEntry) -> Result<Rules, OutOfLimits>
+pub fn from_entry(entry: AnnexEntry) -> Result<Rules, OutOfLimits>
     ensures made { result ≡ annex_checked entry }
     ensures worked { WorkedJoints }
     ensures stricter { Stricter }

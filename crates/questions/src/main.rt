@@ -72,7 +72,7 @@ fn agrees(numbers: &[i64]) -> Option<bool> {
         return None;
     };
     let entry = AnnexEntry::from([*make, *gamma_m0, *gamma_m2].map(field));
-    let annex = annex::of_entry(entry).ok()?;
+    let annex = annex::from_entry(entry).ok()?;
     let sizes = Sizes {
         s1: size(*s1),
         s2: size(*s2),

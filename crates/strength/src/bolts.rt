@@ -2,20 +2,9 @@
 ghost use Rattle.std.specs.Prelude.{◌≡◌};
 ghost use Rattle.strength.specs.Bolts.{bolt_force, shear_met, tension_met, combined_met};
 
-use crate::forces::Forces;
+use crate::loaded::Loaded;
 use crate::roots::root_within;
 use bolting::bolt_groups::BoltLayout;
-use components::Plates;
-use parts::annexes::Rules;
-
-// The bolts that join two plates, under forces.
-#[derive(Clone, Copy)]
-pub(crate) struct LoadedBolts<'a> {
-    pub(crate) rules: Rules,
-    pub(crate) layout: &'a BoltLayout,
-    pub(crate) plates: &'a Plates,
-    pub(crate) forces: Forces,
-}
 
 // The ultimate tensile force of a bolt, in N.
 fn bolt_force(layout: &BoltLayout) -> u32
@@ -24,33 +13,33 @@ fn bolt_force(layout: &BoltLayout) -> u32
     u32::from(layout.class.ultimate_strength()) * u32::from(layout.size.stress_area())
 }
 
-impl LoadedBolts<'_> {
+impl Loaded<'_, BoltLayout> {
     pub(crate) fn shear_met(&self) -> bool
-        ensures { result ≡ shear_met self.now.rules self.now.layout.now self.now.forces.sizes }
+        ensures { result ≡ shear_met self.now.rules self.now.fastening.now self.now.forces.sizes }
     {
         let weight = 10 * u32::from(self.rules.factors.gamma_m2);
-        let factor = u32::from(self.layout.class.shear_factor(self.rules.make));
-        let weighted_count = u32::from(self.layout.count()) * factor;
-        let limit = u64::from(weighted_count) * u64::from(bolt_force(self.layout));
+        let factor = u32::from(self.fastening.class.shear_factor(self.rules.make));
+        let weighted_count = u32::from(self.fastening.count()) * factor;
+        let limit = u64::from(weighted_count) * u64::from(bolt_force(self.fastening));
         root_within(weight, self.forces.shear_square(), limit)
     }
 
     pub(crate) fn tension_met(&self) -> bool
-        ensures { result ≡ tension_met self.now.rules self.now.layout.now self.now.forces.sizes }
+        ensures { result ≡ tension_met self.now.rules self.now.fastening.now self.now.forces.sizes }
     {
         let weight = 10 * u64::from(self.rules.factors.gamma_m2);
-        let limit = 9 * u64::from(self.layout.count()) * u64::from(bolt_force(self.layout));
+        let limit = 9 * u64::from(self.fastening.count()) * u64::from(bolt_force(self.fastening));
         weight * u64::from(self.forces.sizes.s3) <= limit
     }
 
     // Shear and tension together.
     pub(crate) fn combined_met(&self) -> bool
-        ensures { result ≡ combined_met self.now.rules self.now.layout.now self.now.forces.sizes }
+        ensures { result ≡ combined_met self.now.rules self.now.fastening.now self.now.forces.sizes }
     {
         let gamma_m2 = u32::from(self.rules.factors.gamma_m2);
-        let factor = u32::from(self.layout.class.shear_factor(self.rules.make));
-        let weighted_count = 63 * factor * u32::from(self.layout.count());
-        let limit = u64::from(weighted_count) * u64::from(bolt_force(self.layout));
+        let factor = u32::from(self.fastening.class.shear_factor(self.rules.make));
+        let weighted_count = 63 * factor * u32::from(self.fastening.count());
+        let limit = u64::from(weighted_count) * u64::from(bolt_force(self.fastening));
         let share = u64::from(50 * gamma_m2 * factor) * u64::from(self.forces.sizes.s3);
         let weight = 630 * gamma_m2;
         let square = self.forces.shear_square();

@@ -4,17 +4,17 @@
 ghost use Rattle.std.specs.Prelude.{◌≡◌};
 ghost use Rattle.strength.specs.Strength.{bolt_clause_numbered, weld_clause_numbered, bolts_hold, welds_hold, strength_met};
 
-use crate::bolts::LoadedBolts;
-use crate::forces::Forces;
-use crate::welds::LoadedWelds;
-use bolting::bolt_groups::Direction;
+use crate::loaded::Loaded;
+use bolting::bolt_groups::{BoltLayout, Direction};
 use components::{Component, Side, Sizes};
 use parts::annexes::Rules;
+use parts::welds::Weld;
 use stock::makes::Make;
 
 mod bearing;
 mod bolts;
 mod forces;
+mod loaded;
 mod roots;
 mod sections;
 mod welds;
@@ -74,9 +74,9 @@ impl WeldClause {
     }
 }
 
-impl LoadedBolts<'_> {
+impl Loaded<'_, BoltLayout> {
     fn hold(&self, clause: BoltClause) -> bool
-        ensures { result ≡ bolts_hold self.now.rules self.now.layout.now self.now.plates.now self.now.forces.sizes clause }
+        ensures { result ≡ bolts_hold self.now.rules self.now.fastening.now self.now.plates.now self.now.forces.sizes clause }
     {
         match clause {
             BoltClause::Shear => self.shear_met(),
@@ -92,9 +92,9 @@ impl LoadedBolts<'_> {
     }
 }
 
-impl LoadedWelds<'_> {
+impl Loaded<'_, Weld> {
     fn hold(&self, clause: WeldClause) -> bool
-        ensures { result ≡ welds_hold self.now.rules self.now.weld self.now.plates.now self.now.forces.sizes clause }
+        ensures { result ≡ welds_hold self.now.rules self.now.fastening.now self.now.plates.now self.now.forces.sizes clause }
     {
         match clause {
             WeldClause::CombinedStress => self.combined_stress_met(),
@@ -109,31 +109,19 @@ pub fn strength_met(rules: Rules, component: &Component, clause: u8, sizes: Size
     ensures { result ≡ strength_met rules component.now clause sizes }
 {
     match component {
-        Component::Bolted(group, plates) => {
-            let layout = &group.layout;
-            BoltClause::numbered(clause).is_none_or(|clause| {
-                Forces::new(sizes)
-                    .map(|forces| LoadedBolts {
-                        rules,
-                        layout,
-                        plates,
-                        forces,
-                    })
-                    .is_some_and(|bolts| bolts.hold(clause))
-            })
-        }
-        Component::Welded(weld, plates) => {
-            let weld = *weld;
-            WeldClause::numbered(rules.make, clause).is_none_or(|clause| {
-                Forces::new(sizes)
-                    .map(|forces| LoadedWelds {
-                        rules,
-                        weld,
-                        plates,
-                        forces,
-                    })
-                    .is_some_and(|welds| welds.hold(clause))
-            })
-        }
+        Component::Bolted(group, plates) => match BoltClause::numbered(clause) {
+            Some(clause) => {
+                let bolts = Loaded::new(rules, &group.layout, plates, sizes);
+                bolts.is_some_and(|bolts| bolts.hold(clause))
+            }
+            None => true,
+        },
+        Component::Welded(weld, plates) => match WeldClause::numbered(rules.make, clause) {
+            Some(clause) => {
+                let welds = Loaded::new(rules, weld, plates, sizes);
+                welds.is_some_and(|welds| welds.hold(clause))
+            }
+            None => true,
+        },
     }
 }

@@ -2,22 +2,12 @@
 ghost use Rattle.std.specs.Prelude.{◌≡◌};
 ghost use Rattle.strength.specs.Welds.{weld_ultimate, weld_factor, combined_stress_met, normal_stress_met};
 
-use crate::forces::Forces;
+use crate::loaded::Loaded;
 use crate::roots::root_within;
-use components::{Plates, Sizes};
-use parts::annexes::Rules;
+use components::Sizes;
 use parts::welds::Weld;
 
-// The welds that join two plates, under forces.
-#[derive(Clone, Copy)]
-pub(crate) struct LoadedWelds<'a> {
-    pub(crate) rules: Rules,
-    pub(crate) weld: Weld,
-    pub(crate) plates: &'a Plates,
-    pub(crate) forces: Forces,
-}
-
-impl LoadedWelds<'_> {
+impl Loaded<'_, Weld> {
     fn ultimate(&self) -> u16
         ensures { result ≡ weld_ultimate self.now.rules self.now.plates.now }
     {
@@ -33,9 +23,9 @@ impl LoadedWelds<'_> {
     }
 
     pub(crate) fn combined_stress_met(&self) -> bool
-        ensures { result ≡ combined_stress_met self.now.rules self.now.weld self.now.plates.now self.now.forces.sizes }
+        ensures { result ≡ combined_stress_met self.now.rules self.now.fastening.now self.now.plates.now self.now.forces.sizes }
     {
-        let Weld { throat, length, .. } = self.weld;
+        let Weld { throat, length, .. } = *self.fastening;
         let gamma_m2 = u32::from(self.rules.factors.gamma_m2);
         let weight = u32::from(self.factor()) * gamma_m2;
         let strength = u64::from(length) * u64::from(self.ultimate());
@@ -44,9 +34,9 @@ impl LoadedWelds<'_> {
     }
 
     pub(crate) fn normal_stress_met(&self) -> bool
-        ensures { result ≡ normal_stress_met self.now.rules self.now.weld self.now.plates.now self.now.forces.sizes }
+        ensures { result ≡ normal_stress_met self.now.rules self.now.fastening.now self.now.plates.now self.now.forces.sizes }
     {
-        let Weld { throat, length, .. } = self.weld;
+        let Weld { throat, length, .. } = *self.fastening;
         let Sizes { s1, s2, .. } = self.forces.sizes;
         let weight = 50 * u64::from(self.rules.factors.gamma_m2);
         let sum = u64::from(s1 + s2);
