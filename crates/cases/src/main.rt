@@ -10,8 +10,8 @@ const ROW: usize = 37;
 
 // How many rows are compared: those of the lines before the first S, which does nothing yet, and all where the whole
 // case is meant or the file is refused.
-fn rows_compared(kind: &str, file: &[u8], expected: &[u8]) -> usize {
-    if kind == "whole" || expected.starts_with(b"     0") {
+fn rows_compared(whole: bool, file: &[u8], expected: &[u8]) -> usize {
+    if whole || expected.starts_with(b"     0") {
         return usize::MAX;
     }
     file.split_inclusive(|byte| *byte == b'\n')
@@ -20,12 +20,12 @@ fn rows_compared(kind: &str, file: &[u8], expected: &[u8]) -> usize {
 }
 
 // Does the library give the file's report, in the rows that are compared?
-fn agrees(rt: &HostRuntime, name: &str, kind: &str) -> anyhow::Result<bool> {
+fn agrees(rt: &HostRuntime, name: &str, whole: bool) -> anyhow::Result<bool> {
     let heap = rt.alloc();
     let file = fs::read(rt, format!(in heap; "{name}.in")?.as_str())?;
     let expected = fs::read(rt, format!(in heap; "{name}.out")?.as_str())?;
     let given = report(heap, file.as_slice())?;
-    let rows = rows_compared(kind, file.as_slice(), expected.as_slice());
+    let rows = rows_compared(whole, file.as_slice(), expected.as_slice());
     Ok(
         given
             .as_slice()
@@ -43,7 +43,7 @@ fn run(rt: &HostRuntime) -> anyhow::Result<()> {
         .lines()
         .filter_map(|line| line.split_once(' '))
     {
-        let same = agrees(rt, name, kind)?;
+        let same = agrees(rt, name, kind == "whole")?;
         if !same {
             println!(rt; "{name} differs")?;
         }

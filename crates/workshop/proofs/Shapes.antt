@@ -1,7 +1,8 @@
 -- The shape of a report.
-use Rattle.std.proofs.Common.{◌≡◌, ℕ, suc, ◌+◌, List, [], ◌∷◌, ◌++◌, map, length, Ok, Err, refl, ap, ◌∙◌, arith}
+use Rattle.std.proofs.Common.{◌≡◌, ℕ, suc, ◌+◌, List, [], ◌∷◌, map, length, Ok, Err, refl, ap, ◌∙◌, arith}
 use Rattle.std.specs.List.{flat_map, AllByRecursion}
 use Rattle.std.proofs.lemmas.List.{length-map}
+use Rattle.std.proofs.lemmas.List.Folds.{flat_map-map}
 use Rattle.std.proofs.lemmas.Grind.{common_steps}
 use Rattle.workshop.specs.declared.rows.Row.{Row}
 use Rattle.workshop.specs.Acts.{Done}
@@ -24,8 +25,7 @@ report_lines (r ∷ rs) = row_line r (flat_map row_bytes rs) ∙ ap (λ ls. colu
 
 ended_rows : (rs : List Row) → flat_map ended (map columns_of rs) ≡ flat_map row_bytes rs
 unfolding row_bytes
-ended_rows [] = refl
-ended_rows (r ∷ rs) = ap (λ l. ended (columns_of r) ++ l) (ended_rows rs)
+ended_rows rs = flat_map-map ended columns_of rs
 
 rows_wide : (rs : List Row) → AllByRecursion (λ row. length row ≡ 36) (map columns_of rs)
 rows_wide [] = tt

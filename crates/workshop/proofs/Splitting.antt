@@ -5,22 +5,17 @@ use Rattle.std.proofs.lemmas.Grind.{common_steps}
 use Rattle.std.proofs.lemmas.List.Splits.{length-slice_split}
 use Rattle.workshop.specs.Lines.{ended, line_feeds, line_with, lines_in}
 
-line_with_count : (b : ℕ) (ls : List (List ℕ)) → length (line_with b ls) ≡ length ls
-line_with_count b [] = refl
-line_with_count b (l ∷ ls) = refl
-
 -- each line has one line feed
 pub lines_count : (bs : List ℕ) → length (lines_in bs) ≡ line_feeds bs
 lines_count [] = refl
-lines_count (b ∷ bs) = grind (arith, common_steps, line_with_count, lines_count bs)
+lines_count (b ∷ bs) = grind (arith, common_steps, lines_count bs)
 
 pub lines_first : (line rest : List ℕ) → line_feeds line ≡ 0 → lines_in (line ++ (10 ∷ rest)) ≡ line ∷ lines_in rest
 lines_first [] rest none = refl
 lines_first (b ∷ bs) rest none = let more = lines_first bs rest in grind (arith, common_steps)
 
 line_onto : (b : ℕ) (ls : List (List ℕ)) → 1 ≤ length ls → line_with b ls ≡ onto_first b ls
-line_onto b [] some = absurd (omega arith)
-line_onto b (l ∷ ls) some = refl
+line_onto b ls some = grind (arith, common_steps)
 
 -- the parts between line feeds are the lines, where one more line feed ends the last
 pub lines_split : (bs : List ℕ) → lines_in (ended bs) ≡ slice_split (λ b. eqb b 10) bs

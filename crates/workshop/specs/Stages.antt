@@ -32,10 +32,6 @@ all_places = record { plates = 50; bolt_groups = 50; welds = 50; loads = 200 }
 abbrev pub Step : Type 0
 Step = State × Done
 
--- what an answer and the stage after it say of the file
-abbrev pub outcome : Stage × Done → Step
-outcome r = (state_of r.0, r.1)
-
 -- an A that is done begins a book
 abbrev pub begin_step : Result Rules Fault → Step
 begin_step (Ok a) = (draft a (empty_tables all_places), Ok tt)

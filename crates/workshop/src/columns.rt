@@ -1,6 +1,6 @@
 // Numbers in columns of six bytes, read and printed.
-ghost use Rattle.std.specs.Prelude.{◌≡◌, ◌<◌, ◌≤◌, length, IfSome, Some};
-ghost use Rattle.workshop.specs.Columns.{behind_spaces, column_of, digit_at, digits_after, natural_in, negative, number_in, numbers_of, signed_in};
+ghost use Rattle.std.specs.Prelude.{◌≡◌, ◌<◌, ◌≤◌, length, IfSome};
+ghost use Rattle.workshop.specs.Columns.{behind_spaces, column_of, digit_at, digits_after, natural_in, number_in, numbers_of, signed_in};
 
 // The bytes of a field.
 pub(crate) const WIDTH: usize = 6;
@@ -52,23 +52,16 @@ fn signed(text: &[u8]) -> Option<i32>
     ensures { result ≡ signed_in text.now }
 {
     match text {
-        [b'-', digits @ ..] => negated(natural(digits)?),
+        [b'-', digits @ ..] => match natural(digits)? {
+            // Zero has no sign.
+            0 => None,
+            size => Some(-(size as i32)),
+        },
         digits => Some(natural(digits)? as i32),
     }
 }
 
-// Zero has no sign.
-fn negated(size: u32) -> Option<i32>
-    requires { size < 1000000 }
-    ensures { result ≡ negative (Some size) }
-{
-    match size {
-        0 => None,
-        _ => Some(-(size as i32)),
-    }
-}
-
-// By hand: `parse` takes a plus sign and leading zeros. A zero stands alone.
+// A zero stands alone. By hand, since `parse` takes a plus sign and leading zeros.
 fn natural(digits: &[u8]) -> Option<u32>
     requires { length digits.now ≤ 6 }
     ensures read { result ≡ natural_in digits.now }

@@ -57,8 +57,7 @@ fn print_lines(text: &[u8], report: &mut Vec<u8>) -> Result<(), AllocError>
 {
     let mut stage = Stage::Start;
     for (i, line) in text.split(|byte| *byte == b'\n').enumerate() {
-        let (next, answer) = stage.answer(line);
-        stage = next;
+        let answer = stage.act(line);
         Row {
             line: i as u32 + 1,
             answer,

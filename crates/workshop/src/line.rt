@@ -20,34 +20,35 @@ pub enum Line<'a> {
 }
 
 impl<'a> Line<'a> {
-    // A known letter decides how many fields have to follow it.
+    // A known letter decides how many fields have to follow it. Letters as cases of a `match`, and the line taken apart
+    // by a pattern, are a rule of the project.
     pub(crate) fn read(line: &'a [u8]) -> Result<Line<'a>, Fault>
         ensures { MatchResult result (λ l. line_read line.now ≡ Ok (asked l)) (λ f. line_read line.now ≡ Err f) }
     {
-        let [letter, columns @ ..] = line else {
+        let [letter, rest @ ..] = line else {
             return Err(Fault::NoLetter);
         };
         match char::from(*letter) {
-            'A' => Ok(Line::Annex(fields(columns)?)),
-            'P' => Ok(Line::Plate(fields(columns)?)),
-            'B' => Ok(Line::BoltGroup(fields(columns)?)),
-            'W' => Ok(Line::Weld(fields(columns)?)),
-            'X' => Ok(Line::Strike(fields(columns)?)),
-            'S' => fields::<0>(columns).map(|_| Line::SetOut),
-            'L' => Ok(Line::Load(fields(columns)?)),
-            'D' => Ok(Line::Withdraw(fields(columns)?)),
-            'V' => fields::<0>(columns).map(|_| Line::Verdict),
+            'A' => fields(rest).map(Line::Annex),
+            'P' => fields(rest).map(Line::Plate),
+            'B' => fields(rest).map(Line::BoltGroup),
+            'W' => fields(rest).map(Line::Weld),
+            'X' => fields(rest).map(Line::Strike),
+            'S' => fields::<0>(rest).map(|_| Line::SetOut),
+            'L' => fields(rest).map(Line::Load),
+            'D' => fields(rest).map(Line::Withdraw),
+            'V' => fields::<0>(rest).map(|_| Line::Verdict),
             _ => Err(Fault::NoLetter),
         }
     }
 }
 
-// The fields, where the columns are as many as N of them need.
+// The columns as N fields: their length is wrong where they are more or fewer.
 fn fields<const N: usize>(columns: &[u8]) -> Result<&[Field; N], Fault>
     ensures { MatchResult result (λ f. fields_read N columns.now ≡ Ok f.now) (λ f. fields_read N columns.now ≡ Err f) }
 {
     match columns.as_chunks::<WIDTH>() {
-        (fields, []) => <&[Field; N]>::try_from(fields).or(Err(Fault::WrongLength)),
+        (fields, []) => <&[Field; N]>::try_from(fields).map_err(|_| Fault::WrongLength),
         _ => Err(Fault::WrongLength),
     }
 }

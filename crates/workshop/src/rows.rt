@@ -27,6 +27,7 @@ impl Row {
     }
 
     // Six columns and a line feed.
+    #[tactic(auto, using(crate::proofs::Printing::row_printed))]
     fn bytes(&self) -> [u8; LENGTH]
         ensures { result ≡ row_bytes self.now }
     {

@@ -1,5 +1,5 @@
 ghost use Rattle.std.specs.Prelude.{◌≡◌};
-ghost use Rattle.workshop.specs.Stages.{state_of, outcome, step};
+ghost use Rattle.workshop.specs.Stages.{state_of, step};
 
 use crate::columns::numbers;
 use crate::faults::Fault;
@@ -29,17 +29,8 @@ const ALL_PLACES: Places = Places {
 };
 
 impl Stage {
-    // What a line does, and what is answered to it.
-    // By value, though `act` writes in place: a stage that is left cannot be used again.
-    pub(crate) fn answer(mut self, line: &[u8]) -> (Stage, Result<(), Fault>)
-        ensures { outcome result ≡ step (state_of self) line.now }
-    {
-        let answer = self.act(line);
-        (self, answer)
-    }
-
-    // A rule of the project: the stage and the letter are matched together.
-    fn act(&mut self, line: &[u8]) -> Result<(), Fault>
+    // What a line does, and what is answered to it. A rule of the project: the stage and the letter are matched together.
+    pub(crate) fn act(&mut self, line: &[u8]) -> Result<(), Fault>
         ensures { (state_of self.new, result) ≡ step (state_of self.old) line.now }
     {
         match (&mut *self, Line::read(line)?) {

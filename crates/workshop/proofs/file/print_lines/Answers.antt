@@ -12,10 +12,10 @@ loop-i-preserved c =
     (lines_counted _ text c.into_iter-i-iterator.ensures.into_iter_gives c.enumerate-i-items.ensures.source c.enumerate-i-items.ensures.count
     c.split.ensures.rest c.split.ensures.done c.split.ensures.closure (λ x b q k. search (rules, tests)))
     c.loop-i.yielded _ c.loop-i.yielded_by _ _ (c.in-Some.i, c.in-Some.line) c.in-Some.is c.next.ensures.steps in
-    ap (λ k. c.print.new.report.items ++ rows_left text k (state_of c.answer-next.result.0)) (length_push c.loop-i.yielded (c.in-Some.i, c.in-Some.line))
+    ap (λ k. c.print.new.report.items ++ rows_left text k (state_of c.act-answer.new.self)) (length_push c.loop-i.yielded (c.in-Some.i, c.in-Some.line))
     ∙ row_more text (length c.loop-i.yielded) (state_of c.loop-i.stage) c.loop-i.report.items _ c.loop-i.invariant
-    c.in-Some.i c.in-Some.line.now (state_of c.answer-next.result.0) c.answer-next.result.1 c.print.new.report.items turn
-    c.answer-next.ensures c.in_ok-print.ensures
+    c.in-Some.i c.in-Some.line.now (state_of c.act-answer.new.self) c.act-answer.result c.print.new.report.items turn
+    c.act-answer.ensures c.in_ok-print.ensures
 
 pub returns : goal.returns
 returns c =
