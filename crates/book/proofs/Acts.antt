@@ -1,5 +1,6 @@
 -- What each act does to the records in use, to their order, and to looking up by mark.
 use Rattle.std.proofs.Common.{◌≡◌, ℕ, ◌+◌, ◌≤◌, Bool, true, false, cond, not, ◌||◌, ltb, List, [], ◌∷◌, ◌++◌, length, take, drop, set, is_some, is_ok, Ok, Err, Result, sym, refl, ap, ◌∙◌, subst, inl, inr, append-nil, arith, length-set, length-take-le, take_all, take_at, MatchResult}
+use Rattle.std.proofs.lemmas.Grind.{common_steps}
 use Rattle.std.proofs.lemmas.List.{drop_all, take_more_set}
 use Rattle.std.proofs.lemmas.Bool.{cases_lt, cond_both, cond-true, cond-false, ltb-true, ltb-false, or_left, or_right, or_parts, false≢true}
 use Rattle.register.specs.Held.{held, record_of, without, count_struck, places_struck}
@@ -29,73 +30,49 @@ module _ {R : Type 0} {N : ℕ} (t : Table R N) where
   has_room = ltb t.register.count (length (given_places t))
 
   refilled_places : (n : ℕ) (xs : List R) → length xs ≡ length (given_places t) → given_places (refilled t n xs) ≡ xs
-  refilled_places n xs same =
-      elim (cases_lt (length t.places) t.given) [
-        | inl lt ↦
-            let few : length t.places ≤ t.given = omega arith in
-            let all = take_all t.given t.places few in
-            let fit : length xs ≤ t.given = omega (arith, same ∙ ap length all) in
-            ap (λ l. take t.given (xs ++ l)) (drop_all t.given t.places few) ∙ ap (take t.given) (append-nil xs) ∙ take_all t.given xs fit
-        | inr le ↦ take_at xs (drop t.given t.places) t.given (same ∙ length-take-le t.given t.places le)
-      ]
+  refilled_places n xs same = grind (arith, common_steps, take_all {A = R}, drop_all {X = R}, take_at {A = R}, append-nil {A = R})
 
   records_added : (x : R) → has_room ≡ true → records_in (table_added x t) ≡ records_in t ++ (x ∷ [])
-  records_added x room =
-      let n = t.register.count in
-      ap records_in (cond-true has_room (refilled t (n + 1) (set (given_places t) n x)) t room)
-      ∙ ap (held (n + 1)) (refilled_places (n + 1) (set (given_places t) n x) (length-set (given_places t) n x))
-      ∙ take_more_set (given_places t) n x (ltb-true n (length (given_places t)) room)
+  records_added x room = grind (arith, common_steps, refilled_places (t.register.count + 1))
 
   records_struck : (f : R → ℕ) (k : ℕ) → records_in (table_struck f k t) ≡ without f k (records_in t)
-  records_struck f k =
-      let n = t.register.count in
-      let m = count_struck f k n (given_places t) in
-      let xs = places_struck f k n (given_places t) in
-      cond_both (is_some (record_of f k (records_in t))) (refilled t m xs) t (λ u. records_in u ≡ without f k (records_in t))
-      (λ e. ap (held m) (refilled_places m xs (length_places_struck n (given_places t) f k)) ∙ held_struck n (given_places t) f k)
-      (λ e. sym (without_unknown f k (records_in t) (none_from_test _ e)))
+  records_struck f k = grind (arith, common_steps, refilled_places (count_struck f k t.register.count (given_places t)), length_places_struck t.register.count (given_places t) f k, held_struck t.register.count (given_places t) f k, without_unknown f k (records_in t))
 
   newly_named : (f : R → ℕ) (x : R) → is_some (record_of f (f x) (records_in t)) ≡ false → has_room ≡ true →
       NewlyNamed f x (λ n. record_of f n (records_in t)) (λ n. record_of f n (records_in (table_added x t)))
   newly_named f x free room =
       let same = records_added x room in
       let none = none_from_test (record_of f (f x) (records_in t)) free in
-      (none, ap (record_of f (f x)) same ∙ record_added f x (records_in t) none, λ n ne. ap (record_of f n) same ∙ record_others f n x (records_in t) ne)
+      (none, rw same (record_added f x (records_in t) none), λ n ne. rw same (record_others f n x (records_in t) ne))
+
+  newly_named2 : (f : R → ℕ) (x : R) → is_some (record_of f (f x) (records_in t)) ≡ false → has_room ≡ true →
+      NewlyNamed f x (λ n. record_of f n (records_in t)) (λ n. record_of f n (records_in (table_added x t)))
+  newly_named2 f x free room = grind (arith, records_added x, record_added f x (records_in t), λ n. record_others f n x (records_in t))
 
   others_kept : (f : R → ℕ) (k n : ℕ) → (n ≡ k → ⊥) → record_of f n (records_in (table_struck f k t)) ≡ record_of f n (records_in t)
-  others_kept f k n ne = ap (record_of f n) (records_struck f k) ∙ record_without_others f k (records_in t) n ne
+  others_kept f k n ne = rw records_struck (record_without_others f k (records_in t) n ne)
 
 -- what the gates have tested, of the bare answers of their tests
 gates_passed : (fits : Answer) (room : Bool) → is_ok (and_then fits (full_or (cond room (Ok tt) (Err (record {}))))) ≡ true → (is_ok fits ≡ true) × (room ≡ true)
-gates_passed (Ok x) true e = (refl, refl)
-gates_passed (Ok x) false e = absurd (false≢true e)
-gates_passed (Err r) room e = absurd (false≢true e)
+gates_passed (Ok x) room e = grind arith
+gates_passed (Err r) room e = grind arith
 
 gates_full : (fits : Answer) (room : Bool) → (fits ≡ Err Full → ⊥) → and_then fits (full_or (cond room (Ok tt) (Err (record {})))) ≡ Err Full → room ≡ false
-gates_full (Ok x) true other e = cc
-gates_full (Ok x) false other e = refl
-gates_full (Err r) room other e = absurd (other e)
+gates_full (Ok x) room other e = grind arith
+gates_full (Err r) room other e = grind arith
 
 plate_passed : (used : Bool) → is_ok (refuse_if used InUse (Ok tt)) ≡ true → used ≡ false
-plate_passed true e = absurd (false≢true e)
-plate_passed false e = refl
+plate_passed used e = grind arith
 
 plate_not_full : (used : Bool) → refuse_if used InUse (Ok tt) ≡ Err Full → ⊥
-plate_not_full true e = cc
-plate_not_full false e = cc
+plate_not_full used e = grind arith
 
 component_passed : (used a b : Bool) → is_ok (refuse_if used InUse (refuse_if (not a) (Unknown 2) (refuse_if (not b) (Unknown 3) (Ok tt)))) ≡ true →
     (used ≡ false) × ((a ≡ true) × (b ≡ true))
-component_passed true a b e = absurd (false≢true e)
-component_passed false false b e = absurd (false≢true e)
-component_passed false true false e = absurd (false≢true e)
-component_passed false true true e = (refl, (refl, refl))
+component_passed used a b e = grind arith
 
 component_not_full : (used a b : Bool) → refuse_if used InUse (refuse_if (not a) (Unknown 2) (refuse_if (not b) (Unknown 3) (Ok tt))) ≡ Err Full → ⊥
-component_not_full true a b e = cc
-component_not_full false false b e = cc
-component_not_full false true false e = cc
-component_not_full false true true e = cc
+component_not_full used a b e = grind arith
 
 -- an act that stores where its gates let it
 done_or_kept : (r : Answer) (t u : Tables) (Done : Tables → Type 0) → (is_ok r ≡ true → Done u) → MatchResult r (λ ok. Done (cond (is_ok r) u t)) (λ refusal. cond (is_ok r) u t ≡ t)
@@ -131,14 +108,14 @@ module _ (t : Tables) (order : orderly t ≡ true) where
     orderly_struck : orderly (component_struck t m) ≡ true
     orderly_struck =
         cond_both (is_some (group_named t m)) (group_kind.with_table (table_struck group_mark m t.bolt_groups) t) (weld_kind.with_table (table_struck weld_mark m t.welds) t) (λ u. orderly u ≡ true)
-        (λ e. ap (λ l. in_order (ps t) l (ws t)) (records_struck t.bolt_groups group_mark m) ∙ order_less_group (ps t) (gs t) (ws t) order m e)
-        (λ e. ap (λ l. in_order (ps t) (gs t) l) (records_struck t.welds weld_mark m) ∙ order_less_weld (ps t) (gs t) (ws t) order m e)
+        (λ e. rw (records_struck t.bolt_groups group_mark m) (order_less_group (ps t) (gs t) (ws t) order m e))
+        (λ e. rw (records_struck t.welds weld_mark m) (order_less_weld (ps t) (gs t) (ws t) order m e))
 
     group_freed : is_some (group_named t m) ≡ true → MarkFreed m t (group_kind.with_table (table_struck group_mark m t.bolt_groups) t)
     group_freed e =
         let gone = mark_gone (ps t) (gs t) (ws t) order m (without group_mark m (gs t)) (ws t) (marks_less_group (gs t) (ws t) m e) in (
           or_left _ _ e,
-          ap (record_of group_mark m) (records_struck t.bolt_groups group_mark m) ∙ gone.0,
+          rw (records_struck t.bolt_groups group_mark m) gone.0,
           gone.1,
           (λ n ne. (others_kept t.bolt_groups group_mark m n ne, refl)),
           refl,
@@ -150,7 +127,7 @@ module _ (t : Tables) (order : orderly t ≡ true) where
         let gone = mark_gone (ps t) (gs t) (ws t) order m (gs t) (without weld_mark m (ws t)) (marks_less_weld (gs t) (ws t) m other) in (
           or_right _ _ e,
           gone.0,
-          ap (record_of weld_mark m) (records_struck t.welds weld_mark m) ∙ gone.1,
+          rw (records_struck t.welds weld_mark m) gone.1,
           (λ n ne. (refl, others_kept t.welds weld_mark m n ne)),
           refl,
           refl,
@@ -211,7 +188,7 @@ module _ (t : Tables) (order : orderly t ≡ true) where
     own = λ table. refl;
     free = λ p. plate_passed (is_some (plate_named t p.mark));
     not_full = λ p. plate_not_full (is_some (plate_named t p.mark));
-    stays_orderly = λ p e room. ap (λ l. in_order l (gs t) (ws t)) (records_added t.plates p room) ∙ order_plate (ps t) (gs t) (ws t) order p (plate_passed (is_some (plate_named t p.mark)) e);
+    stays_orderly = λ p e room. rw (records_added t.plates p room) (order_plate (ps t) (gs t) (ws t) order p (plate_passed (is_some (plate_named t p.mark)) e));
   }
 
   -- what the gates of a component have tested
@@ -228,7 +205,7 @@ module _ (t : Tables) (order : orderly t ≡ true) where
     not_full = λ g. known_full g.marks;
     stays_orderly = λ g e room.
         let h = known g.marks e in
-        ap (λ l. in_order (ps t) l (ws t)) (records_added t.bolt_groups g room) ∙ order_group (ps t) (gs t) (ws t) order g h.0 h.1;
+        rw (records_added t.bolt_groups g room) (order_group (ps t) (gs t) (ws t) order g h.0 h.1);
   }
 
   weld_laws : KindLaws weld_kind t
@@ -238,7 +215,7 @@ module _ (t : Tables) (order : orderly t ≡ true) where
     not_full = λ w. known_full w.marks;
     stays_orderly = λ w e room.
         let h = known w.marks e in
-        ap (λ l. in_order (ps t) (gs t) l) (records_added t.welds w room) ∙ order_weld (ps t) (gs t) (ws t) order w h.0 h.1;
+        rw (records_added t.welds w room) (order_weld (ps t) (gs t) (ws t) order w h.0 h.1);
   }
 
   -- one act on a book in order

@@ -105,7 +105,7 @@ impl Register {
 }
 
 // Writes the record behind the first `at` records.
-#[tactic(auto, using(crate::proofs::Places::added_found, crate::proofs::Places::added_unrepeated))]
+#[tactic(auto, using(crate::proofs::Places::added_unrepeated))]
 fn put<R: Numbered>(places: &mut [R], at: usize, item: R)
     requires { at < length places.old }
     ensures places { places.new ≡ slice_set places.old at item }
