@@ -1,10 +1,9 @@
 -- What each act does to the records in use, to their order, and to looking up by mark.
-use Rattle.std.proofs.Common.{◌≡◌, ℕ, ◌+◌, ◌≤◌, Bool, true, false, cond, not, ◌||◌, ltb, List, [], ◌∷◌, ◌++◌, length, take, drop, set, is_some, is_ok, Ok, Err, Result, sym, refl, ap, ◌∙◌, subst, inl, inr, append-nil, arith, length-set, length-take-le, take_all, take_at, MatchResult}
+use Rattle.std.proofs.Common.{◌≡◌, ℕ, ◌+◌, Bool, true, false, cond, not, ◌||◌, ltb, List, [], ◌∷◌, ◌++◌, length, is_some, is_ok, Ok, Err, Result, refl, ap, append-nil, arith, take_all, take_at, MatchResult}
 use Rattle.std.proofs.lemmas.Grind.{common_steps}
-use Rattle.std.proofs.lemmas.List.{drop_all, take_more_set}
-use Rattle.std.proofs.lemmas.Bool.{cases_lt, cond_both, cond-true, cond-false, ltb-true, ltb-false, or_left, or_right, or_parts, false≢true}
-use Rattle.register.specs.Held.{held, record_of, without, count_struck, places_struck}
-use Rattle.register.proofs.Search.{none_from_test}
+use Rattle.std.proofs.lemmas.List.{drop_all}
+use Rattle.std.proofs.lemmas.Bool.{cond_both, cond-false, or_left, or_right}
+use Rattle.register.specs.Held.{record_of, without, count_struck}
 use Rattle.register.proofs.Changes.{record_added, record_others, record_without_others, without_unknown}
 use Rattle.register.proofs.Places.{held_struck, length_places_struck}
 use Rattle.parts.specs.declared.limits.OutOfLimits.{OutOfLimits as LimitFault}
@@ -16,11 +15,11 @@ use Rattle.bolting.specs.declared.bolt_groups.BoltGroup.{BoltGroup}
 use Rattle.parts.specs.declared.welds.Weld.{Weld}
 use Rattle.book.specs.declared.tables.Table.{Table}
 use Rattle.book.specs.declared.tables.Tables.{Tables}
-use Rattle.book.specs.declared.refusals.Refusal.TheVariants.{InUse, Unknown, Full}
+use Rattle.book.specs.declared.refusals.Refusal.TheVariants.{Unknown, Full}
 use Rattle.book.specs.Tabled.{given_places, records_in, refilled, table_added, table_struck}
-use Rattle.book.specs.Tables.{empty_tables, plate_named, group_named, weld_named, mark_used}
-use Rattle.book.specs.Order.{in_order, orderly}
-use Rattle.book.specs.Drafts.{Answer, refuse_if, full_or, and_then, component_gates, Kind, plate_kind, group_kind, weld_kind, named, with_record, gates, stored, strike_gates, component_struck, entry_answer, entry_stored, answer_to_entry, after_entry, mark_checked}
+use Rattle.book.specs.Tables.{empty_tables, group_named, weld_named, mark_used}
+use Rattle.book.specs.Order.{orderly}
+use Rattle.book.specs.Drafts.{Answer, refuse_if, component_gates, Kind, plate_kind, group_kind, weld_kind, named, with_record, gates, stored, strike_gates, component_struck, entry_answer, entry_stored, answer_to_entry, after_entry, mark_checked}
 use Rattle.book.specs.Laws.{Joined, NewlyNamed, FullWhenTaken, PlatesInPlace, Taken, EntryAdded, MarkFreed, MarkStruck, Refused, Act, adds_plate, adds_group, adds_weld, strikes, holding, drafted, DoneNext, DraftingLaws}
 use Rattle.book.proofs.Order.{plates_of_record, ordered, marks_less_group, marks_less_weld, order_plate, order_group, order_weld, order_less_group, order_less_weld, one_component, mark_gone}
 
@@ -36,43 +35,14 @@ module _ {R : Type 0} {N : ℕ} (t : Table R N) where
   records_added x room = grind (arith, common_steps, refilled_places (t.register.count + 1))
 
   records_struck : (f : R → ℕ) (k : ℕ) → records_in (table_struck f k t) ≡ without f k (records_in t)
-  records_struck f k = grind (arith, common_steps, refilled_places (count_struck f k t.register.count (given_places t)), length_places_struck t.register.count (given_places t) f k, held_struck t.register.count (given_places t) f k, without_unknown f k (records_in t))
+  records_struck f k = grind (arith, refilled_places (count_struck f k t.register.count (given_places t)), length_places_struck t.register.count (given_places t) f k, held_struck t.register.count (given_places t) f k, without_unknown f k (records_in t))
 
   newly_named : (f : R → ℕ) (x : R) → is_some (record_of f (f x) (records_in t)) ≡ false → has_room ≡ true →
       NewlyNamed f x (λ n. record_of f n (records_in t)) (λ n. record_of f n (records_in (table_added x t)))
-  newly_named f x free room =
-      let same = records_added x room in
-      let none = none_from_test (record_of f (f x) (records_in t)) free in
-      (none, rw same (record_added f x (records_in t) none), λ n ne. rw same (record_others f n x (records_in t) ne))
-
-  newly_named2 : (f : R → ℕ) (x : R) → is_some (record_of f (f x) (records_in t)) ≡ false → has_room ≡ true →
-      NewlyNamed f x (λ n. record_of f n (records_in t)) (λ n. record_of f n (records_in (table_added x t)))
-  newly_named2 f x free room = grind (arith, records_added x, record_added f x (records_in t), λ n. record_others f n x (records_in t))
+  newly_named f x free room = grind (arith, records_added x, record_added f x, record_others f)
 
   others_kept : (f : R → ℕ) (k n : ℕ) → (n ≡ k → ⊥) → record_of f n (records_in (table_struck f k t)) ≡ record_of f n (records_in t)
   others_kept f k n ne = rw records_struck (record_without_others f k (records_in t) n ne)
-
--- what the gates have tested, of the bare answers of their tests
-gates_passed : (fits : Answer) (room : Bool) → is_ok (and_then fits (full_or (cond room (Ok tt) (Err (record {}))))) ≡ true → (is_ok fits ≡ true) × (room ≡ true)
-gates_passed (Ok x) room e = grind arith
-gates_passed (Err r) room e = grind arith
-
-gates_full : (fits : Answer) (room : Bool) → (fits ≡ Err Full → ⊥) → and_then fits (full_or (cond room (Ok tt) (Err (record {})))) ≡ Err Full → room ≡ false
-gates_full (Ok x) room other e = grind arith
-gates_full (Err r) room other e = grind arith
-
-plate_passed : (used : Bool) → is_ok (refuse_if used InUse (Ok tt)) ≡ true → used ≡ false
-plate_passed used e = grind arith
-
-plate_not_full : (used : Bool) → refuse_if used InUse (Ok tt) ≡ Err Full → ⊥
-plate_not_full used e = grind arith
-
-component_passed : (used a b : Bool) → is_ok (refuse_if used InUse (refuse_if (not a) (Unknown 2) (refuse_if (not b) (Unknown 3) (Ok tt)))) ≡ true →
-    (used ≡ false) × ((a ≡ true) × (b ≡ true))
-component_passed used a b e = grind arith
-
-component_not_full : (used a b : Bool) → refuse_if used InUse (refuse_if (not a) (Unknown 2) (refuse_if (not b) (Unknown 3) (Ok tt))) ≡ Err Full → ⊥
-component_not_full used a b e = grind arith
 
 -- an act that stores where its gates let it
 done_or_kept : (r : Answer) (t u : Tables) (Done : Tables → Type 0) → (is_ok r ≡ true → Done u) → MatchResult r (λ ok. Done (cond (is_ok r) u t)) (λ refusal. cond (is_ok r) u t ≡ t)
@@ -156,23 +126,19 @@ module _ {X : Type 0} (t : Tables) (order : orderly t ≡ true) (gates : X → A
 
 module _ {X : Type 0} (k : Kind X) (t : Tables) (order : orderly t ≡ true) (laws : KindLaws k t) where
   passed : (x : X) → is_ok (gates k t x) ≡ true → (is_ok (k.fits t x) ≡ true) × (has_room (k.table t) ≡ true)
-  passed x = gates_passed (k.fits t x) (has_room (k.table t))
+  passed x e = grind arith
 
   taken : (x : X) → Taken k x (gates k t x) t (stored k t x)
   taken x =
       let table = table_added x (k.table t) in
-      let same = sym (laws.own table) in
       done_or_kept (gates k t x) t (with_record k x t) (λ u. NewlyNamed k.mark x (named k t) (named k u) × (u ≡ k.with_table (k.table u) t))
-      (λ e. let h = passed x e in (
-        subst (λ own. NewlyNamed k.mark x (named k t) (λ n. record_of k.mark n (records_in own))) same (newly_named (k.table t) k.mark x (laws.free x h.0) h.1),
-        ap (λ own. k.with_table own t) same,
-      ))
+      (λ e. let h = passed x e in (rw (laws.own table) (newly_named (k.table t) k.mark x (laws.free x h.0) h.1), rw (laws.own table) refl))
 
   orderly_stored : (x : X) → orderly (stored k t x) ≡ true
   orderly_stored x = cond_both (is_ok (gates k t x)) (with_record k x t) t (λ u. orderly u ≡ true) (λ e. let h = passed x e in laws.stays_orderly x h.0 h.1) (λ e. order)
 
   full_when_taken : (made : Result X LimitFault) → FullWhenTaken (k.table t) (answer_to_entry k t made)
-  full_when_taken (Ok x) e = ltb-false _ _ (gates_full (k.fits t x) (has_room (k.table t)) (laws.not_full x) e)
+  full_when_taken (Ok x) e = grind (arith, laws.not_full x)
   full_when_taken (Err o) e = cc
 
   entry_laws : (made : Result X LimitFault) →
@@ -186,23 +152,20 @@ module _ (t : Tables) (order : orderly t ≡ true) where
   plate_laws : KindLaws plate_kind t
   plate_laws = record {
     own = λ table. refl;
-    free = λ p. plate_passed (is_some (plate_named t p.mark));
-    not_full = λ p. plate_not_full (is_some (plate_named t p.mark));
-    stays_orderly = λ p e room. rw (records_added t.plates p room) (order_plate (ps t) (gs t) (ws t) order p (plate_passed (is_some (plate_named t p.mark)) e));
+    free = λ p e. grind arith;
+    not_full = λ p e. grind arith;
+    stays_orderly = λ p e room. rw (records_added t.plates p room) (order_plate (ps t) (gs t) (ws t) order p (grind arith));
   }
 
   -- what the gates of a component have tested
   known : (c : ComponentMarks) → is_ok (component_gates t c) ≡ true → (mark_used t c.mark ≡ false) × Joined t c
-  known c = component_passed (mark_used t c.mark) (is_some (plate_named t c.plate_a)) (is_some (plate_named t c.plate_b))
-
-  known_full : (c : ComponentMarks) → component_gates t c ≡ Err Full → ⊥
-  known_full c = component_not_full (mark_used t c.mark) (is_some (plate_named t c.plate_a)) (is_some (plate_named t c.plate_b))
+  known c e = grind arith
 
   group_laws : KindLaws group_kind t
   group_laws = record {
     own = λ table. refl;
-    free = λ g e. (or_parts _ _ (known g.marks e).0).0;
-    not_full = λ g. known_full g.marks;
+    free = λ g e. grind arith;
+    not_full = λ g e. grind arith;
     stays_orderly = λ g e room.
         let h = known g.marks e in
         rw (records_added t.bolt_groups g room) (order_group (ps t) (gs t) (ws t) order g h.0 h.1);
@@ -211,8 +174,8 @@ module _ (t : Tables) (order : orderly t ≡ true) where
   weld_laws : KindLaws weld_kind t
   weld_laws = record {
     own = λ table. refl;
-    free = λ w e. (or_parts _ _ (known w.marks e).0).1;
-    not_full = λ w. known_full w.marks;
+    free = λ w e. grind arith;
+    not_full = λ w e. grind arith;
     stays_orderly = λ w e room.
         let h = known w.marks e in
         rw (records_added t.welds w room) (order_weld (ps t) (gs t) (ws t) order w h.0 h.1);

@@ -1,11 +1,8 @@
 -- Marks that are not repeated and plates that are known, when a record is added or taken out.
-use Rattle.std.proofs.Common.{◌≡◌, ℕ, true, false, cond, ◌||◌, eqb, List, [], ◌∷◌, ◌++◌, map, is_some, Some, None, Option, sym, refl, ap, ◌∙◌, inl, inr, append_assoc, arith}
-use Rattle.std.proofs.lemmas.Bool.{and_parts, and_from, or_left, or_parts, not-true, eqb-true, cases_Bool}
-use Rattle.std.proofs.lemmas.Grind.{common_steps}
+use Rattle.std.proofs.Common.{◌≡◌, ℕ, true, false, ◌||◌, List, [], ◌∷◌, ◌++◌, map, is_some, Some, None, refl, append_assoc, arith}
 use Rattle.std.proofs.lemmas.List.{map-append}
 use Rattle.std.proofs.lemmas.List.Folds.{find-append, list_all-append}
 use Rattle.register.specs.Held.{record_of, without, unrepeated}
-use Rattle.register.proofs.Search.{not_both, none_from_test}
 use Rattle.register.proofs.Changes.{record_without, unrepeated_added, unrepeated_between, unrepeated_without}
 use Rattle.parts.specs.Numbers.{plate_mark, weld_mark}
 use Rattle.bolting.specs.Groups.{group_mark}
@@ -18,8 +15,7 @@ use Rattle.book.specs.Order.{component_marks, both_plates, all_known, in_order}
 module _ {X : Type 0} (f : X → ℕ) where
   -- looking up in two lists, one behind the other
   known_append : (k : ℕ) (xs ys : List X) → is_some (record_of f k (xs ++ ys)) ≡ (is_some (record_of f k xs) || is_some (record_of f k ys))
-  known_append k [] ys = refl
-  known_append k (x ∷ xs) ys = grind (arith, known_append k xs ys)
+  known_append k xs ys = grind (arith, find-append {X = X})
 
   without_front : (k : ℕ) (xs ys : List X) → is_some (record_of f k xs) ≡ true → without f k (xs ++ ys) ≡ without f k xs ++ ys
   without_front k [] ys e = cc
@@ -54,7 +50,7 @@ module _ {X : Type 0} (marks : X → ComponentMarks) (ps : List Plate) where
   joins x = (is_some (record_of plate_mark (marks x).plate_a ps) ≡ true) × (is_some (record_of plate_mark (marks x).plate_b ps) ≡ true)
 
   plates_added : (x : X) (xs : List X) → joins x → all_known ps (both_plates marks xs) ≡ true → all_known ps (both_plates marks (xs ++ (x ∷ []))) ≡ true
-  plates_added x [] k h = rw (k.0, k.1)
+  plates_added x [] k h = grind arith
   plates_added x (y ∷ xs) k h = grind (arith, plates_added x xs k)
 
   plates_without : (f : X → ℕ) (k : ℕ) (xs : List X) → all_known ps (both_plates marks xs) ≡ true → all_known ps (both_plates marks (without f k xs)) ≡ true
@@ -102,7 +98,7 @@ module _ (ps : List Plate) (gs : List BoltGroup) (ws : List Weld) (order : in_or
   pub order_plate : (p : Plate) → is_some (record_of plate_mark p.mark ps) ≡ false → in_order (ps ++ (p ∷ [])) gs ws ≡ true
   order_plate p free =
       order_from (ps ++ (p ∷ [])) gs ws (record {
-        plates_apart = unrepeated_added plate_mark p ps now.plates_apart (none_from_test _ free);
+        plates_apart = grind (arith, unrepeated_added plate_mark p ps now.plates_apart);
         marks_apart = now.marks_apart;
         groups_known = known_more p ps _ now.groups_known;
         welds_known = known_more p ps _ now.welds_known;
@@ -110,7 +106,7 @@ module _ (ps : List Plate) (gs : List BoltGroup) (ws : List Weld) (order : in_or
 
   -- a mark that no component bears
   free_mark : (k : ℕ) → (is_some (record_of group_mark k gs) || is_some (record_of weld_mark k ws)) ≡ false → record_of (λ n. n) k (component_marks gs ws) ≡ None
-  free_mark k free = none_from_test _ (marks_known gs ws k ∙ free)
+  free_mark k free = grind (arith, marks_known gs ws k)
 
   pub order_group : (g : BoltGroup) → (is_some (record_of group_mark g.marks.mark gs) || is_some (record_of weld_mark g.marks.mark ws)) ≡ false →
       joins (λ g. g.marks) ps g → in_order ps (gs ++ (g ∷ [])) ws ≡ true
