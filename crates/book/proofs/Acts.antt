@@ -1,9 +1,9 @@
 -- What each act does to the records in use, to their order, and to looking up by mark.
-use Rattle.std.proofs.Common.{◌≡◌, ℕ, ◌+◌, ◌≤◌, Bool, true, false, cond, not, ◌||◌, ltb, List, [], ◌∷◌, ◌++◌, length, take, drop, set, is_some, is_ok, Ok, Err, Result, sym, refl, ap, ◌∙◌, subst, inl, inr, append-nil, arith, length-set, length-take-le, take_all, take_at, MatchResult}
-use Rattle.std.proofs.lemmas.List.{drop_all, take_more_set}
-use Rattle.std.proofs.lemmas.Bool.{cases_lt, cond_both, cond-true, cond-false, ltb-true, ltb-false, or_left, or_right, or_parts, false≢true}
-use Rattle.register.specs.Held.{held, record_of, without, count_struck, places_struck}
-use Rattle.register.proofs.Search.{none_from_test}
+use Rattle.std.proofs.Common.{◌≡◌, ℕ, ◌+◌, Bool, true, false, cond, not, ◌||◌, ltb, List, [], ◌∷◌, ◌++◌, length, is_some, is_ok, Ok, Err, Result, refl, ap, append-nil, arith, take_all, take_at, MatchResult}
+use Rattle.std.proofs.lemmas.Grind.{common_steps}
+use Rattle.std.proofs.lemmas.List.{drop_all}
+use Rattle.std.proofs.lemmas.Bool.{cond_both, cond-false, or_left, or_right}
+use Rattle.register.specs.Held.{record_of, without, count_struck}
 use Rattle.register.proofs.Changes.{record_added, record_others, record_without_others, without_unknown}
 use Rattle.register.proofs.Places.{held_struck, length_places_struck}
 use Rattle.parts.specs.declared.limits.OutOfLimits.{OutOfLimits as LimitFault}
@@ -15,11 +15,11 @@ use Rattle.bolting.specs.declared.bolt_groups.BoltGroup.{BoltGroup}
 use Rattle.parts.specs.declared.welds.Weld.{Weld}
 use Rattle.book.specs.declared.tables.Table.{Table}
 use Rattle.book.specs.declared.tables.Tables.{Tables}
-use Rattle.book.specs.declared.refusals.Refusal.TheVariants.{InUse, Unknown, Full}
+use Rattle.book.specs.declared.refusals.Refusal.TheVariants.{Unknown, Full}
 use Rattle.book.specs.Tabled.{given_places, records_in, refilled, table_added, table_struck}
-use Rattle.book.specs.Tables.{empty_tables, plate_named, group_named, weld_named, mark_used}
-use Rattle.book.specs.Order.{in_order, orderly}
-use Rattle.book.specs.Drafts.{Answer, refuse_if, full_or, and_then, component_gates, Kind, plate_kind, group_kind, weld_kind, named, with_record, gates, stored, strike_gates, component_struck, entry_answer, entry_stored, answer_to_entry, after_entry, mark_checked}
+use Rattle.book.specs.Tables.{empty_tables, group_named, weld_named, mark_used}
+use Rattle.book.specs.Order.{orderly}
+use Rattle.book.specs.Drafts.{Answer, refuse_if, component_gates, Kind, plate_kind, group_kind, weld_kind, named, with_record, gates, stored, strike_gates, component_struck, entry_answer, entry_stored, answer_to_entry, after_entry, mark_checked}
 use Rattle.book.specs.Laws.{Joined, NewlyNamed, FullWhenTaken, PlatesInPlace, Taken, EntryAdded, MarkFreed, MarkStruck, Refused, Act, adds_plate, adds_group, adds_weld, strikes, holding, drafted, DoneNext, DraftingLaws}
 use Rattle.book.proofs.Order.{plates_of_record, ordered, marks_less_group, marks_less_weld, order_plate, order_group, order_weld, order_less_group, order_less_weld, one_component, mark_gone}
 
@@ -29,73 +29,20 @@ module _ {R : Type 0} {N : ℕ} (t : Table R N) where
   has_room = ltb t.register.count (length (given_places t))
 
   refilled_places : (n : ℕ) (xs : List R) → length xs ≡ length (given_places t) → given_places (refilled t n xs) ≡ xs
-  refilled_places n xs same =
-      elim (cases_lt (length t.places) t.given) [
-        | inl lt ↦
-            let few : length t.places ≤ t.given = omega arith in
-            let all = take_all t.given t.places few in
-            let fit : length xs ≤ t.given = omega (arith, same ∙ ap length all) in
-            ap (λ l. take t.given (xs ++ l)) (drop_all t.given t.places few) ∙ ap (take t.given) (append-nil xs) ∙ take_all t.given xs fit
-        | inr le ↦ take_at xs (drop t.given t.places) t.given (same ∙ length-take-le t.given t.places le)
-      ]
+  refilled_places n xs same = grind (arith, common_steps, take_all {A = R}, drop_all {X = R}, take_at {A = R}, append-nil {A = R})
 
   records_added : (x : R) → has_room ≡ true → records_in (table_added x t) ≡ records_in t ++ (x ∷ [])
-  records_added x room =
-      let n = t.register.count in
-      ap records_in (cond-true has_room (refilled t (n + 1) (set (given_places t) n x)) t room)
-      ∙ ap (held (n + 1)) (refilled_places (n + 1) (set (given_places t) n x) (length-set (given_places t) n x))
-      ∙ take_more_set (given_places t) n x (ltb-true n (length (given_places t)) room)
+  records_added x room = grind (arith, common_steps, refilled_places (t.register.count + 1))
 
   records_struck : (f : R → ℕ) (k : ℕ) → records_in (table_struck f k t) ≡ without f k (records_in t)
-  records_struck f k =
-      let n = t.register.count in
-      let m = count_struck f k n (given_places t) in
-      let xs = places_struck f k n (given_places t) in
-      cond_both (is_some (record_of f k (records_in t))) (refilled t m xs) t (λ u. records_in u ≡ without f k (records_in t))
-      (λ e. ap (held m) (refilled_places m xs (length_places_struck n (given_places t) f k)) ∙ held_struck n (given_places t) f k)
-      (λ e. sym (without_unknown f k (records_in t) (none_from_test _ e)))
+  records_struck f k = grind (arith, refilled_places (count_struck f k t.register.count (given_places t)), length_places_struck t.register.count (given_places t) f k, held_struck t.register.count (given_places t) f k, without_unknown f k (records_in t))
 
   newly_named : (f : R → ℕ) (x : R) → is_some (record_of f (f x) (records_in t)) ≡ false → has_room ≡ true →
       NewlyNamed f x (λ n. record_of f n (records_in t)) (λ n. record_of f n (records_in (table_added x t)))
-  newly_named f x free room =
-      let same = records_added x room in
-      let none = none_from_test (record_of f (f x) (records_in t)) free in
-      (none, ap (record_of f (f x)) same ∙ record_added f x (records_in t) none, λ n ne. ap (record_of f n) same ∙ record_others f n x (records_in t) ne)
+  newly_named f x free room = grind (arith, records_added x, record_added f x, record_others f)
 
   others_kept : (f : R → ℕ) (k n : ℕ) → (n ≡ k → ⊥) → record_of f n (records_in (table_struck f k t)) ≡ record_of f n (records_in t)
-  others_kept f k n ne = ap (record_of f n) (records_struck f k) ∙ record_without_others f k (records_in t) n ne
-
--- what the gates have tested, of the bare answers of their tests
-gates_passed : (fits : Answer) (room : Bool) → is_ok (and_then fits (full_or (cond room (Ok tt) (Err (record {}))))) ≡ true → (is_ok fits ≡ true) × (room ≡ true)
-gates_passed (Ok x) true e = (refl, refl)
-gates_passed (Ok x) false e = absurd (false≢true e)
-gates_passed (Err r) room e = absurd (false≢true e)
-
-gates_full : (fits : Answer) (room : Bool) → (fits ≡ Err Full → ⊥) → and_then fits (full_or (cond room (Ok tt) (Err (record {})))) ≡ Err Full → room ≡ false
-gates_full (Ok x) true other e = cc
-gates_full (Ok x) false other e = refl
-gates_full (Err r) room other e = absurd (other e)
-
-plate_passed : (used : Bool) → is_ok (refuse_if used InUse (Ok tt)) ≡ true → used ≡ false
-plate_passed true e = absurd (false≢true e)
-plate_passed false e = refl
-
-plate_not_full : (used : Bool) → refuse_if used InUse (Ok tt) ≡ Err Full → ⊥
-plate_not_full true e = cc
-plate_not_full false e = cc
-
-component_passed : (used a b : Bool) → is_ok (refuse_if used InUse (refuse_if (not a) (Unknown 2) (refuse_if (not b) (Unknown 3) (Ok tt)))) ≡ true →
-    (used ≡ false) × ((a ≡ true) × (b ≡ true))
-component_passed true a b e = absurd (false≢true e)
-component_passed false false b e = absurd (false≢true e)
-component_passed false true false e = absurd (false≢true e)
-component_passed false true true e = (refl, (refl, refl))
-
-component_not_full : (used a b : Bool) → refuse_if used InUse (refuse_if (not a) (Unknown 2) (refuse_if (not b) (Unknown 3) (Ok tt))) ≡ Err Full → ⊥
-component_not_full true a b e = cc
-component_not_full false false b e = cc
-component_not_full false true false e = cc
-component_not_full false true true e = cc
+  others_kept f k n ne = rw records_struck (record_without_others f k (records_in t) n ne)
 
 -- an act that stores where its gates let it
 done_or_kept : (r : Answer) (t u : Tables) (Done : Tables → Type 0) → (is_ok r ≡ true → Done u) → MatchResult r (λ ok. Done (cond (is_ok r) u t)) (λ refusal. cond (is_ok r) u t ≡ t)
@@ -131,14 +78,14 @@ module _ (t : Tables) (order : orderly t ≡ true) where
     orderly_struck : orderly (component_struck t m) ≡ true
     orderly_struck =
         cond_both (is_some (group_named t m)) (group_kind.with_table (table_struck group_mark m t.bolt_groups) t) (weld_kind.with_table (table_struck weld_mark m t.welds) t) (λ u. orderly u ≡ true)
-        (λ e. ap (λ l. in_order (ps t) l (ws t)) (records_struck t.bolt_groups group_mark m) ∙ order_less_group (ps t) (gs t) (ws t) order m e)
-        (λ e. ap (λ l. in_order (ps t) (gs t) l) (records_struck t.welds weld_mark m) ∙ order_less_weld (ps t) (gs t) (ws t) order m e)
+        (λ e. rw (records_struck t.bolt_groups group_mark m) (order_less_group (ps t) (gs t) (ws t) order m e))
+        (λ e. rw (records_struck t.welds weld_mark m) (order_less_weld (ps t) (gs t) (ws t) order m e))
 
     group_freed : is_some (group_named t m) ≡ true → MarkFreed m t (group_kind.with_table (table_struck group_mark m t.bolt_groups) t)
     group_freed e =
         let gone = mark_gone (ps t) (gs t) (ws t) order m (without group_mark m (gs t)) (ws t) (marks_less_group (gs t) (ws t) m e) in (
           or_left _ _ e,
-          ap (record_of group_mark m) (records_struck t.bolt_groups group_mark m) ∙ gone.0,
+          rw (records_struck t.bolt_groups group_mark m) gone.0,
           gone.1,
           (λ n ne. (others_kept t.bolt_groups group_mark m n ne, refl)),
           refl,
@@ -150,7 +97,7 @@ module _ (t : Tables) (order : orderly t ≡ true) where
         let gone = mark_gone (ps t) (gs t) (ws t) order m (gs t) (without weld_mark m (ws t)) (marks_less_weld (gs t) (ws t) m other) in (
           or_right _ _ e,
           gone.0,
-          ap (record_of weld_mark m) (records_struck t.welds weld_mark m) ∙ gone.1,
+          rw (records_struck t.welds weld_mark m) gone.1,
           (λ n ne. (refl, others_kept t.welds weld_mark m n ne)),
           refl,
           refl,
@@ -179,23 +126,19 @@ module _ {X : Type 0} (t : Tables) (order : orderly t ≡ true) (gates : X → A
 
 module _ {X : Type 0} (k : Kind X) (t : Tables) (order : orderly t ≡ true) (laws : KindLaws k t) where
   passed : (x : X) → is_ok (gates k t x) ≡ true → (is_ok (k.fits t x) ≡ true) × (has_room (k.table t) ≡ true)
-  passed x = gates_passed (k.fits t x) (has_room (k.table t))
+  passed x e = grind arith
 
   taken : (x : X) → Taken k x (gates k t x) t (stored k t x)
   taken x =
       let table = table_added x (k.table t) in
-      let same = sym (laws.own table) in
       done_or_kept (gates k t x) t (with_record k x t) (λ u. NewlyNamed k.mark x (named k t) (named k u) × (u ≡ k.with_table (k.table u) t))
-      (λ e. let h = passed x e in (
-        subst (λ own. NewlyNamed k.mark x (named k t) (λ n. record_of k.mark n (records_in own))) same (newly_named (k.table t) k.mark x (laws.free x h.0) h.1),
-        ap (λ own. k.with_table own t) same,
-      ))
+      (λ e. let h = passed x e in (rw (laws.own table) (newly_named (k.table t) k.mark x (laws.free x h.0) h.1), rw (laws.own table) refl))
 
   orderly_stored : (x : X) → orderly (stored k t x) ≡ true
   orderly_stored x = cond_both (is_ok (gates k t x)) (with_record k x t) t (λ u. orderly u ≡ true) (λ e. let h = passed x e in laws.stays_orderly x h.0 h.1) (λ e. order)
 
   full_when_taken : (made : Result X LimitFault) → FullWhenTaken (k.table t) (answer_to_entry k t made)
-  full_when_taken (Ok x) e = ltb-false _ _ (gates_full (k.fits t x) (has_room (k.table t)) (laws.not_full x) e)
+  full_when_taken (Ok x) e = grind (arith, laws.not_full x)
   full_when_taken (Err o) e = cc
 
   entry_laws : (made : Result X LimitFault) →
@@ -209,36 +152,33 @@ module _ (t : Tables) (order : orderly t ≡ true) where
   plate_laws : KindLaws plate_kind t
   plate_laws = record {
     own = λ table. refl;
-    free = λ p. plate_passed (is_some (plate_named t p.mark));
-    not_full = λ p. plate_not_full (is_some (plate_named t p.mark));
-    stays_orderly = λ p e room. ap (λ l. in_order l (gs t) (ws t)) (records_added t.plates p room) ∙ order_plate (ps t) (gs t) (ws t) order p (plate_passed (is_some (plate_named t p.mark)) e);
+    free = λ p e. grind arith;
+    not_full = λ p e. grind arith;
+    stays_orderly = λ p e room. rw (records_added t.plates p room) (order_plate (ps t) (gs t) (ws t) order p (grind arith));
   }
 
   -- what the gates of a component have tested
   known : (c : ComponentMarks) → is_ok (component_gates t c) ≡ true → (mark_used t c.mark ≡ false) × Joined t c
-  known c = component_passed (mark_used t c.mark) (is_some (plate_named t c.plate_a)) (is_some (plate_named t c.plate_b))
-
-  known_full : (c : ComponentMarks) → component_gates t c ≡ Err Full → ⊥
-  known_full c = component_not_full (mark_used t c.mark) (is_some (plate_named t c.plate_a)) (is_some (plate_named t c.plate_b))
+  known c e = grind arith
 
   group_laws : KindLaws group_kind t
   group_laws = record {
     own = λ table. refl;
-    free = λ g e. (or_parts _ _ (known g.marks e).0).0;
-    not_full = λ g. known_full g.marks;
+    free = λ g e. grind arith;
+    not_full = λ g e. grind arith;
     stays_orderly = λ g e room.
         let h = known g.marks e in
-        ap (λ l. in_order (ps t) l (ws t)) (records_added t.bolt_groups g room) ∙ order_group (ps t) (gs t) (ws t) order g h.0 h.1;
+        rw (records_added t.bolt_groups g room) (order_group (ps t) (gs t) (ws t) order g h.0 h.1);
   }
 
   weld_laws : KindLaws weld_kind t
   weld_laws = record {
     own = λ table. refl;
-    free = λ w e. (or_parts _ _ (known w.marks e).0).1;
-    not_full = λ w. known_full w.marks;
+    free = λ w e. grind arith;
+    not_full = λ w e. grind arith;
     stays_orderly = λ w e room.
         let h = known w.marks e in
-        ap (λ l. in_order (ps t) (gs t) l) (records_added t.welds w room) ∙ order_weld (ps t) (gs t) (ws t) order w h.0 h.1;
+        rw (records_added t.welds w room) (order_weld (ps t) (gs t) (ws t) order w h.0 h.1);
   }
 
   -- one act on a book in order

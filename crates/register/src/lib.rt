@@ -1,4 +1,5 @@
-// Numbered records in places that are lent to each call: a register keeps only how many of the places are in use.
+// Numbered records in places that are lent to each call: a register keeps only how many of the
+// places are in use.
 #![tactic(auto)]
 
 ghost use Rattle.std.specs.Prelude.{◌≡◌, ℕ, ◌+◌, ◌-◌, ◌<◌, ◌≤◌, length, is_some, IfSome, Some, slice_set};
@@ -104,6 +105,7 @@ impl Register {
 }
 
 // Writes the record behind the first `at` records.
+#[tactic(auto, using(crate::proofs::Places::added_unrepeated))]
 fn put<R: Numbered>(places: &mut [R], at: usize, item: R)
     requires { at < length places.old }
     ensures places { places.new ≡ slice_set places.old at item }
@@ -114,6 +116,7 @@ fn put<R: Numbered>(places: &mut [R], at: usize, item: R)
 }
 
 // Moves what stands behind `at` down one place, up to `end`.
+#[tactic(auto, using(crate::proofs::Places::gap_closed))]
 fn close_gap<R: Numbered>(places: &mut [R], at: usize, end: usize)
     requires before_end { at < end }
     requires end_within { end ≤ length places.old }

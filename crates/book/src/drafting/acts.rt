@@ -10,16 +10,10 @@ use crate::tables::{Places, Tables};
 use parts::entries::Entry;
 use parts::limits::{OutOfLimits, mark};
 
-// What a book holds when it begins; what holds of every book that is drafted is shown here.
-fn no_records(places: Places) -> Tables
-    ensures tables { result ≡ empty_tables places }
-    ensures laws { DraftingLaws }
-{
-    Tables::empty(places)
-}
-
 impl<A> Drafting<A> {
-    // An empty book with so many places, to be judged by the annex.
+    // An empty book with so many places, to be judged by the annex; what holds of every book that is
+    // drafted is shown here.
+    #[tactic(auto, using(crate::proofs::Acts::drafting_laws))]
     pub fn begin(annex: A, places: Places) -> Drafting<A>
         ensures annex { result.annex ≡ annex }
         ensures tables { result.tables ≡ empty_tables places }
@@ -27,7 +21,7 @@ impl<A> Drafting<A> {
     {
         Drafting {
             annex,
-            tables: no_records(places),
+            tables: Tables::empty(places),
         }
     }
 

@@ -6,7 +6,7 @@ use crate::tables::Tables;
 use parts::marks::ComponentMarks;
 
 impl Tables {
-    // May a component of that mark join those plates?
+    // May a component of these marks enter?
     pub(crate) fn check_component(&self, marks: ComponentMarks) -> Result<(), Refusal>
         ensures { result ≡ component_gates self.now marks }
     {

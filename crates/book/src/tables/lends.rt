@@ -81,6 +81,8 @@ impl<R: Numbered, const N: usize> Table<R, N> {
         self.register.add(&mut self.places[..lent], item)
     }
 
+    // Says whether there was one, as a set's `remove` does.
+    #[tactic(auto, using(crate::proofs::Lent::refilled_struck))]
     pub(crate) fn strike(&mut self, number: u16) -> bool
         ensures answer { result ≡ is_some (record_of R.numbered number (records_in self.old)) }
         ensures table { self.new ≡ table_struck R.numbered number self.old }

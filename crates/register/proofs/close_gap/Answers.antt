@@ -1,8 +1,5 @@
-use Rattle.std.proofs.Common.{◌∙◌}
-use Rattle.register.proofs.Places.{gap_closed, struck_found}
+use Rattle.register.proofs.Places.{struck_found}
 use Rattle.register.proofs.close_gap.Goals as goal
 
-pub returns : goal.returns
-returns g c =
-    let is = c.copy_within.ensures.after ∙ gap_closed c.args.places.now c.args.at c.args.end c.requires.before_end in
-    record { places = is; found = λ n k used e. struck_found n c.args.places.now g.R.Numbered.numbered k c.args.at c.args.end c.copy_within.new.self used is e }
+pub returns-clause-found : goal.returns-clause-found
+returns-clause-found g c n k used e = struck_found n c.args.places.now g.R.Numbered.numbered k c.args.at c.args.end c.copy_within.new.self used c.copy_within.ensures.after e
