@@ -67,7 +67,7 @@ impl Register {
         }
     }
 
-    // Takes the record with the number out; says whether there was one.
+    // Takes the record with the number out; says whether there was one, as a set's `remove` does.
     #[tactic(auto, using(crate::proofs::Search::place_known))]
     pub fn strike<R: Numbered>(&mut self, places: &mut [R], number: u16) -> bool
         ensures answer { result ≡ is_some (record_of R.numbered number (held self.old.count places.old)) }
