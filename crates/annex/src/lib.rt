@@ -21,7 +21,8 @@ pub trait Annex {
     // the yes or no to every question
     ghost meaning: { Self → Meaning };
 
-    // Clauses go by numbers and no enum, since an annex answers for every number, and reports print it.
+    // Clauses go by numbers and no enum, since an annex answers for every number, also one that it lacks. No type for a
+    // question: a layout clause is asked without sizes.
     fn layout_met(&self, component: &Component, clause: u8) -> bool
         ensures { result ≡ (meaning self.now).layout component.now clause };
 

@@ -177,6 +177,7 @@ impl BoltGroupEntry {
     {
         let size = BoltSize::try_from(self.size).map_err(|_| OutOfLimits { field: 4 })?;
         let class = BoltClass::try_from(self.class).map_err(|_| OutOfLimits { field: 5 })?;
+        // `as u8` is proved to lose nothing.
         let rows = limited(self.rows, 1, 10).ok_or(OutOfLimits { field: 6 })? as u8;
         let columns = limited(self.columns, 1, 4).ok_or(OutOfLimits { field: 7 })? as u8;
         let e1 = limited(self.e1, 1, 400).ok_or(OutOfLimits { field: 8 })?;

@@ -3,13 +3,14 @@ ghost use Rattle.book.specs.Drafts.{Kind, plate_kind, group_kind, weld_kind, gat
 
 use crate::refusals::Refusal;
 use crate::tables::Tables;
-use bolting::bolt_groups::BoltGroup;
-use parts::plates::Plate;
-use parts::welds::Weld;
+use bolting::bolt_groups::{BoltGroup, BoltGroupEntry};
+use parts::plates::{Plate, PlateEntry};
+use parts::welds::{Weld, WeldEntry};
 use register::Numbered;
 
-// Other crates add no kind of record: the laws of a book are shown of these three.
-mod sealed {
+// Other crates add no kind of record, of which the laws of a book are not shown, and no entry, which might make a record
+// outside the limits.
+pub(crate) mod sealed {
     pub trait Sealed {}
 }
 
@@ -18,6 +19,12 @@ impl sealed::Sealed for Plate {}
 impl sealed::Sealed for BoltGroup {}
 
 impl sealed::Sealed for Weld {}
+
+impl sealed::Sealed for PlateEntry {}
+
+impl sealed::Sealed for BoltGroupEntry {}
+
+impl sealed::Sealed for WeldEntry {}
 
 // A record that a book takes.
 pub trait Entered: Numbered + sealed::Sealed {
@@ -49,6 +56,7 @@ impl Entered for BoltGroup {
     }
 }
 
+// As above but for the table: one implementation for all components would meet that for plates.
 impl Entered for Weld {
     ghost kind = { weld_kind };
 

@@ -4,7 +4,7 @@ use parts::plates::Plate;
 use parts::welds::Weld;
 use register::Register;
 
-// Places for records of one kind, a fixed array since there is no heap: how many of them the book was
+// Places for records of one kind, a fixed array since a book takes no heap: how many of them the book was
 // given, and how many are in use.
 #[derive(Clone, Copy)]
 pub struct Table<R, const N: usize> {

@@ -48,7 +48,7 @@ pub enum WeldClause {
 }
 
 impl WeldClause {
-    // No TryFrom, as above.
+    // No TryFrom, since a number without a clause is no error: what the make lacks is met.
     fn numbered(number: u8) -> Option<WeldClause>
         ensures { result ≡ weld_clause_numbered number }
     {

@@ -7,7 +7,7 @@ pub struct OutOfLimits {
     pub field: u8,
 }
 
-// The value, where it is from `low` to `high`. A field of a byte narrows it by `as`, which is proved to lose nothing.
+// The value, where it is from `low` to `high`.
 pub fn limited(value: i32, low: u16, high: u16) -> Option<u16>
     ensures { result ≡ within low high value }
 {

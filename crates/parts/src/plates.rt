@@ -52,6 +52,7 @@ impl Entry for PlateEntry {
 
     fn checked(&self) -> Result<Plate, OutOfLimits> {
         let mark = mark(self.mark).ok_or(OutOfLimits { field: 1 })?;
+        // `as u8` is proved to lose nothing.
         let thickness = limited(self.thickness, 4, 40).ok_or(OutOfLimits { field: 2 })? as u8;
         let grade = Grade::try_from(self.grade).map_err(|_| OutOfLimits { field: 3 })?;
         Ok(Plate {

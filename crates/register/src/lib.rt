@@ -18,7 +18,7 @@ pub trait Numbered: Copy {
 #[derive(Clone, Copy, Debug, PartialEq, Eq)]
 pub struct Full;
 
-// How many of the places are in use: the first ones. A count alone, since there is no heap: whoever
+// How many of the places are in use: the first ones. A count alone, since a book takes no heap: whoever
 // has the places lends them, and the same calls serve the records of any kind.
 #[derive(Clone, Copy, Debug, PartialEq, Eq)]
 pub struct Register {

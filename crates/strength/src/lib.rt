@@ -33,7 +33,8 @@ pub enum BoltClause {
 }
 
 impl BoltClause {
-    // No TryFrom, since a number without a clause is no error: what the rules lack is met.
+    // No TryFrom, since a number without a clause is no error: what the rules lack is met. Another list than that of
+    // the layout clauses, with which it shares the shape alone.
     fn numbered(number: u8) -> Option<BoltClause>
         ensures { result ≡ bolt_clause_numbered number }
     {
@@ -108,6 +109,7 @@ impl Loaded<'_, Weld> {
 pub fn strength_met(rules: Rules, component: &Component, clause: u8, sizes: Sizes) -> bool
     ensures { result ≡ strength_met rules component.now clause sizes }
 {
+    // A `match` in each arm: with `is_none_or` around `Loaded::new` this is not proved.
     match component {
         Component::Bolted(group, plates) => match BoltClause::numbered(clause) {
             Some(clause) => {

@@ -5,6 +5,7 @@ ghost use Rattle.book.specs.Laws.{DraftingLaws};
 
 use crate::drafting::Drafting;
 use crate::entered::Entered;
+use crate::entered::sealed::Sealed;
 use crate::refusals::Refusal;
 use crate::tables::{Places, Tables};
 use parts::entries::Entry;
@@ -26,7 +27,7 @@ impl<A> Drafting<A> {
     }
 
     // Takes the record that the entry makes.
-    pub fn add<E: Entry + Drop>(&mut self, entry: E) -> Result<(), Refusal>
+    pub fn add<E: Entry + Sealed + Drop>(&mut self, entry: E) -> Result<(), Refusal>
     where
         E::Record: Entered,
         ensures answer { result ≡ answer_to_entry E.Record.kind self.old.tables (E.checked entry) }
