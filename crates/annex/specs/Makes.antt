@@ -1,11 +1,16 @@
 -- What the rules of a make, with its partial factors, mean as an annex.
-use Rattle.std.specs.Prelude.{◌≤◌}
+use Rattle.std.specs.Prelude.{◌≤◌, Ok, Result}
 use Rattle.stock.specs.declared.makes.Make.{Make}
+use Rattle.parts.specs.declared.limits.OutOfLimits.{OutOfLimits}
+use Rattle.parts.specs.declared.annexes.AnnexEntry.{AnnexEntry}
 use Rattle.parts.specs.declared.annexes.Factors.{Factors}
 use Rattle.parts.specs.declared.annexes.Rules.{Rules}
+use Rattle.parts.specs.Limits.{and_then}
+use Rattle.parts.specs.Entries.{annex_checked}
 use Rattle.components.specs.declared.Component.{Component}
 use Rattle.layout.specs.Layout.{layout_met}
 use Rattle.strength.specs.Strength.{strength_met}
+use Rattle.annex.specs.declared.Standard.{Standard}
 use Rattle.annex.specs.Meaning.{Meaning}
 use Rattle.annex.specs.Facts.{AtLeastAsStrict}
 
@@ -14,6 +19,10 @@ ruled m f = record { make = m; factors = f }
 
 abbrev pub rules_meaning : Rules → Meaning
 rules_meaning r = record { layout = layout_met r.make; strength = strength_met r }
+
+-- the standard that an entry chooses, or its first field outside the limits
+abbrev pub standard_made : AnnexEntry → Result Standard OutOfLimits
+standard_made x = and_then (annex_checked x) (λ r. Ok (record { rules = r }))
 
 -- no factor of the first is smaller than the second's
 abbrev pub NoSmaller : Factors → Factors → Type 0

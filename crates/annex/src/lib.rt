@@ -2,10 +2,9 @@
 #![tactic(auto)]
 
 ghost use Rattle.std.specs.Prelude.{◌≡◌};
-ghost use Rattle.parts.specs.Entries.{annex_checked};
 ghost use Rattle.annex.specs.Meaning.{Meaning};
 ghost use Rattle.annex.specs.Facts.{SmallerMet, UnloadedMet};
-ghost use Rattle.annex.specs.Makes.{rules_meaning, Stricter};
+ghost use Rattle.annex.specs.Makes.{rules_meaning, standard_made, Stricter};
 ghost use Rattle.annex.specs.Worked.{WorkedJoints};
 ghost use Rattle.annex.specs.FactsLemmas.{rules_lighter};
 ghost use Rattle.annex.specs.Unloaded.{rules_unloaded};
@@ -36,28 +35,37 @@ pub trait Annex {
     ghost unloaded: { (x : Self) → UnloadedMet (meaning x) };
 }
 
-impl Annex for Rules {
-    ghost meaning = { rules_meaning };
+// A standard, EN or SE-A, as an annex. Its rules are private, so that none has factors outside their limits.
+#[derive(Clone, Copy, Debug, PartialEq, Eq)]
+pub struct Standard {
+    rules: Rules,
+}
 
-    ghost lighter = { rules_lighter };
-
-    ghost unloaded = { rules_unloaded };
-
-    fn layout_met(&self, component: &Component, clause: u8) -> bool {
-        layout::layout_met(self.make, component, clause)
-    }
-
-    fn strength_met(&self, component: &Component, clause: u8, sizes: Sizes) -> bool {
-        strength::strength_met(*self, component, clause, sizes)
+impl Standard {
+    // The standard that an entry chooses, or its first field outside the limits.
+    #[tactic(auto, using(crate::specs::FactsLemmas::stricter, crate::proofs::Worked::worked_joints))]
+    pub fn new(entry: AnnexEntry) -> Result<Standard, OutOfLimits>
+        ensures made { result ≡ standard_made entry }
+        ensures worked { WorkedJoints }
+        ensures stricter { Stricter }
+    {
+        let rules = entry.checked()?;
+        Ok(Standard { rules })
     }
 }
 
-// The annex that an entry chooses, or its first field outside the limits.
-#[tactic(auto, using(crate::specs::FactsLemmas::stricter, crate::proofs::Worked::worked_joints))]
-pub fn from_entry(entry: AnnexEntry) -> Result<Rules, OutOfLimits>
-    ensures made { result ≡ annex_checked entry }
-    ensures worked { WorkedJoints }
-    ensures stricter { Stricter }
-{
-    entry.checked()
+impl Annex for Standard {
+    ghost meaning = { λ s. rules_meaning s.rules };
+
+    ghost lighter = { λ s. rules_lighter s.rules };
+
+    ghost unloaded = { λ s. rules_unloaded s.rules };
+
+    fn layout_met(&self, component: &Component, clause: u8) -> bool {
+        layout::layout_met(self.rules.make, component, clause)
+    }
+
+    fn strength_met(&self, component: &Component, clause: u8, sizes: Sizes) -> bool {
+        strength::strength_met(self.rules, component, clause, sizes)
+    }
 }

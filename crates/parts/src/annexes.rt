@@ -5,11 +5,11 @@ use crate::entries::Entry;
 use crate::limits::{OutOfLimits, limited};
 use stock::makes::Make;
 
-// Partial factors γM0 and γM2, in hundredths. Only `new` makes them, so no annex has others than it lets pass.
+// Partial factors γM0 and γM2, in hundredths.
 #[derive(Clone, Copy, Debug, PartialEq, Eq)]
 pub struct Factors {
-    gamma_m0: u8,
-    gamma_m2: u8,
+    pub gamma_m0: u8,
+    pub gamma_m2: u8,
 }
 
 impl Factors {
@@ -21,18 +21,6 @@ impl Factors {
         let gamma_m0 = limited(gamma_m0, 100, 200).ok_or(OutOfLimits { field: 2 })? as u8;
         let gamma_m2 = limited(gamma_m2, 100, 200).ok_or(OutOfLimits { field: 3 })? as u8;
         Ok(Factors { gamma_m0, gamma_m2 })
-    }
-
-    pub fn gamma_m0(self) -> u8
-        ensures { result ≡ self.gamma_m0 }
-    {
-        self.gamma_m0
-    }
-
-    pub fn gamma_m2(self) -> u8
-        ensures { result ≡ self.gamma_m2 }
-    {
-        self.gamma_m2
     }
 }
 

@@ -3,7 +3,7 @@
 // gradeB (or W a L tA gradeA tB gradeB) | clause | s1 s2 s3 | 1 met, 0 not.
 #![tactic(auto)]
 
-use annex::Annex;
+use annex::{Annex, Standard};
 use bolting::bolt_groups::BoltGroupEntry;
 use components::{Component, Plates, Sizes};
 use parts::annexes::AnnexEntry;
@@ -72,7 +72,7 @@ fn agrees(numbers: &[i64]) -> Option<bool> {
         return None;
     };
     let entry = AnnexEntry::from([*make, *gamma_m0, *gamma_m2].map(field));
-    let annex = annex::from_entry(entry).ok()?;
+    let annex = Standard::new(entry).ok()?;
     let sizes = Sizes {
         s1: size(*s1),
         s2: size(*s2),

@@ -105,7 +105,7 @@ impl Loaded<'_, BoltLayout> {
         let stress = along_force.bearing_stress(layout.class.ultimate_strength(), ultimate);
         let section = product_i64(bearing_area(layout, plate), across_force.edge_ratio(make));
         let resistance = product_i128(stress, section);
-        let weight = u64::from(bearing_weight(factors.gamma_m2(), along_force.diameter));
+        let weight = u64::from(bearing_weight(factors.gamma_m2, along_force.diameter));
         let force = weight * u64::from(self.forces.sizes.in_direction(direction));
         within(force, resistance)
     }

@@ -17,7 +17,7 @@ impl Loaded<'_, BoltLayout> {
     pub(crate) fn shear_met(&self) -> bool
         ensures { result ≡ shear_met self.now.rules self.now.fastening.now self.now.forces.sizes }
     {
-        let weight = 10 * u32::from(self.rules.factors.gamma_m2());
+        let weight = 10 * u32::from(self.rules.factors.gamma_m2);
         let factor = u32::from(self.fastening.class.shear_factor(self.rules.make));
         let weighted_count = u32::from(self.fastening.count()) * factor;
         let limit = u64::from(weighted_count) * u64::from(bolt_force(self.fastening));
@@ -27,7 +27,7 @@ impl Loaded<'_, BoltLayout> {
     pub(crate) fn tension_met(&self) -> bool
         ensures { result ≡ tension_met self.now.rules self.now.fastening.now self.now.forces.sizes }
     {
-        let weight = 10 * u64::from(self.rules.factors.gamma_m2());
+        let weight = 10 * u64::from(self.rules.factors.gamma_m2);
         let limit = 9 * u64::from(self.fastening.count()) * u64::from(bolt_force(self.fastening));
         weight * u64::from(self.forces.sizes.s3) <= limit
     }
@@ -36,7 +36,7 @@ impl Loaded<'_, BoltLayout> {
     pub(crate) fn combined_met(&self) -> bool
         ensures { result ≡ combined_met self.now.rules self.now.fastening.now self.now.forces.sizes }
     {
-        let gamma_m2 = u32::from(self.rules.factors.gamma_m2());
+        let gamma_m2 = u32::from(self.rules.factors.gamma_m2);
         let factor = u32::from(self.fastening.class.shear_factor(self.rules.make));
         let weighted_count = 63 * factor * u32::from(self.fastening.count());
         let limit = u64::from(weighted_count) * u64::from(bolt_force(self.fastening));

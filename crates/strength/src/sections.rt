@@ -19,7 +19,7 @@ impl Loaded<'_, BoltLayout> {
         ensures { result ≡ gross_met self.now.rules self.now.fastening.now plate self.now.forces.sizes }
     {
         let Rules { make, factors } = self.rules;
-        let gamma_m0 = u32::from(factors.gamma_m0());
+        let gamma_m0 = u32::from(factors.gamma_m0);
         let force = u64::from(gamma_m0) * u64::from(self.forces.sizes.s1);
         let yield_strength = plate
             .grade
@@ -31,7 +31,7 @@ impl Loaded<'_, BoltLayout> {
     pub(crate) fn net_met(&self, plate: Plate) -> bool
         ensures { result ≡ net_met self.now.rules self.now.fastening.now plate self.now.forces.sizes }
     {
-        let weight = 10 * u64::from(self.rules.factors.gamma_m2());
+        let weight = 10 * u64::from(self.rules.factors.gamma_m2);
         let force = weight * u64::from(self.forces.sizes.s1);
         let ultimate = u32::from(plate.grade.ultimate_strength(self.rules.make));
         let strength = 9 * u32::from(plate.thickness) * ultimate;

@@ -26,7 +26,7 @@ impl Loaded<'_, Weld> {
         ensures { result ≡ combined_stress_met self.now.rules self.now.fastening.now self.now.plates.now self.now.forces.sizes }
     {
         let Weld { throat, length, .. } = *self.fastening;
-        let gamma_m2 = u32::from(self.rules.factors.gamma_m2());
+        let gamma_m2 = u32::from(self.rules.factors.gamma_m2);
         let weight = u32::from(self.factor()) * gamma_m2;
         let strength = u64::from(length) * u64::from(self.ultimate());
         let limit = 20 * u64::from(throat) * strength;
@@ -38,7 +38,7 @@ impl Loaded<'_, Weld> {
     {
         let Weld { throat, length, .. } = *self.fastening;
         let Sizes { s1, s2, .. } = self.forces.sizes;
-        let weight = 50 * u64::from(self.rules.factors.gamma_m2());
+        let weight = 50 * u64::from(self.rules.factors.gamma_m2);
         let sum = u64::from(s1 + s2);
         let strength = u64::from(length) * u64::from(self.ultimate());
         let root = u128::from(9 * u64::from(throat) * strength);
