@@ -52,6 +52,13 @@ impl Standard {
         let rules = entry.checked()?;
         Ok(Standard { rules })
     }
+
+    // The make, with its factors.
+    pub fn rules(&self) -> Rules
+        ensures { result ≡ self.now.rules }
+    {
+        self.rules // as `new` made them
+    }
 }
 
 impl Annex for Standard {

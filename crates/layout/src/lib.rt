@@ -19,7 +19,8 @@ pub enum BoltClause {
 }
 
 impl BoltClause {
-    // No TryFrom, since a number without a clause is no error: what the make lacks is met.
+    // No TryFrom, since a number without a clause is no error: what the make lacks is met. Another list than that of the
+    // strength clauses, with which it shares the shape alone.
     fn numbered(number: u8) -> Option<BoltClause>
         ensures { result ≡ bolt_clause_numbered number }
     {
