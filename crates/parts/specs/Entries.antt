@@ -1,5 +1,5 @@
 -- The record that an entry makes, or its first field outside the limits.
-use Rattle.std.specs.Prelude.{ℕ, cond, List, ℤ, pos, negsuc, Some, None, Ok, Option, Result, ◌==◌, slice_index_or}
+use Rattle.std.specs.Prelude.{ℕ, List, ℤ, pos, Ok, Result, slice_index_or}
 use Rattle.parts.specs.declared.limits.OutOfLimits.{OutOfLimits}
 use Rattle.parts.specs.declared.marks.ComponentMarks.{ComponentMarks}
 use Rattle.parts.specs.declared.plates.Plate.{Plate}

@@ -39,20 +39,20 @@ begin_step (Err f) = (start, Err f)
 
 -- an act on the book, by what the numbers of its fields are answered and what the book then holds; nothing changes
 -- where a field is ill-formed
-abbrev pub drafted : Rules → Tables → (List ℤ → Answer) → (List ℤ → Tables) → Fields → Step
-drafted a t answer after (Err e) = (draft a t, Err (of_column e))
-drafted a t answer after (Ok zs) = (draft a (after zs), from_book (answer zs))
+abbrev pub book_step : Rules → Tables → (List ℤ → Answer) → (List ℤ → Tables) → Fields → Step
+book_step a t answer after (Err e) = (draft a t, Err (of_column e))
+book_step a t answer after (Ok zs) = (draft a (after zs), from_book (answer zs))
 
 -- until an A is done only A does something, then P, B, W and X; any other letter is misplaced
 abbrev pub act_step : State → Letter → List (List ℕ) → Step
 act_step start annex fs = begin_step (beginning (numbers_of fs))
 act_step (draft a t) plate fs =
-    drafted a t (λ zs. plate_answer t (plate_fields zs)) (λ zs. plate_entered t (plate_fields zs)) (numbers_of fs)
+    book_step a t (λ zs. plate_answer t (plate_fields zs)) (λ zs. plate_entered t (plate_fields zs)) (numbers_of fs)
 act_step (draft a t) bolt_group fs =
-    drafted a t (λ zs. group_answer t (group_fields zs)) (λ zs. group_entered t (group_fields zs)) (numbers_of fs)
+    book_step a t (λ zs. group_answer t (group_fields zs)) (λ zs. group_entered t (group_fields zs)) (numbers_of fs)
 act_step (draft a t) weld fs =
-    drafted a t (λ zs. weld_answer t (weld_fields zs)) (λ zs. weld_entered t (weld_fields zs)) (numbers_of fs)
-act_step (draft a t) strike fs = drafted a t (λ zs. strike_answer t (nth 0 zs)) (λ zs. struck_out t (nth 0 zs)) (numbers_of fs)
+    book_step a t (λ zs. weld_answer t (weld_fields zs)) (λ zs. weld_entered t (weld_fields zs)) (numbers_of fs)
+act_step (draft a t) strike fs = book_step a t (λ zs. strike_answer t (nth 0 zs)) (λ zs. struck_out t (nth 0 zs)) (numbers_of fs)
 act_step s l fs = (s, Err WrongStage)
 
 -- a line that is not read is answered with its fault
