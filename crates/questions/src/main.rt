@@ -106,12 +106,14 @@ fn ask_row(rt: &HostRuntime, name: &str, row: &str) -> anyhow::Result<bool> {
 // Asks every row of a table, and prints how many agree.
 fn ask(rt: &HostRuntime, name: &str) -> anyhow::Result<()> {
     let table = fs::read_to_string(rt, format!(in rt.alloc(); "{name}.txt")?.as_str())?;
-    let mut agreed = Vec::new(rt.alloc());
+    // Counts, since a list of the answers would take memory for each row.
+    let mut rows: usize = 0;
+    let mut agreeing: usize = 0;
     for row in table.as_str().lines().filter(|row| !row.starts_with('#')) {
-        agreed.push(ask_row(rt, name, row)?)?;
+        rows = rows.saturating_add(1);
+        agreeing = agreeing.saturating_add(usize::from(ask_row(rt, name, row)?));
     }
-    let agreeing = agreed.iter().filter(|agrees| **agrees).count();
-    println!(rt; "{name}: {agreeing} of {} rows agree", agreed.len())?;
+    println!(rt; "{name}: {agreeing} of {rows} rows agree")?;
     Ok(())
 }
 
