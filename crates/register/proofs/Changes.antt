@@ -1,5 +1,5 @@
 -- What a record added last and a record taken out mean for looking up by number.
-use Rattle.std.proofs.Common.{◌≡◌, ℕ, append-nil, true, List, [], ◌∷◌, ◌++◌, Some, None, refl, arith}
+use Rattle.std.proofs.Common.{◌≡◌, ℕ, ◌+◌, append-nil, true, List, [], ◌∷◌, ◌++◌, length, is_some, Some, None, refl, arith}
 use Rattle.std.proofs.lemmas.List.Folds.{find-append}
 use Rattle.register.specs.Held.{record_of, without, unrepeated}
 use Rattle.register.specs.Laws.{OthersAsBefore, Added, StaysUnrepeated, Struck}
@@ -18,6 +18,10 @@ module _ {R : Type 0} (f : R → ℕ) where
   pub without_unknown : (k : ℕ) (xs : List R) → record_of f k xs ≡ None → without f k xs ≡ xs
   without_unknown k [] e = refl
   without_unknown k (x ∷ xs) e = grind (arith, without_unknown k xs)
+
+  pub length_without : (k : ℕ) (xs : List R) → is_some (record_of f k xs) ≡ true → length (without f k xs) + 1 ≡ length xs
+  length_without k [] e = cc
+  length_without k (x ∷ xs) e = grind (arith, length_without k xs)
 
   pub record_without_others : (k : ℕ) (xs : List R) → OthersAsBefore f k xs (without f k xs)
   record_without_others k [] m ne = refl

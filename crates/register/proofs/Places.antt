@@ -20,23 +20,23 @@ module _ {R : Type 0} (xs : List R) (at : ℕ) where
     one_fewer : length (remove (take n xs) at) ≡ n - 1
     one_fewer = grind (arith, length-take n xs, length-remove (take n xs) at)
 
-    held_removed : held (n - 1) (struck at n xs) ≡ remove (held n xs) at
+    pub held_removed : held (n - 1) (struck at n xs) ≡ remove (held n xs) at
     held_removed = take_at (remove (take n xs) at) (drop (n - 1) xs) (n - 1) one_fewer
 
-    length_struck : length (struck at n xs) ≡ length xs
+    pub length_struck : length (struck at n xs) ≡ length xs
     length_struck = grind (arith, common_steps, one_fewer)
 
 module _ {R : Type 0} (n : ℕ) (xs : List R) where
   -- a count past the last place
-  held_used : held (length (held n xs)) xs ≡ held n xs
+  pub held_used : held (length (held n xs)) xs ≡ held n xs
   held_used = rw length-take (take_min n xs)
 
-  used_within : length (held n xs) ≤ length xs
+  pub used_within : length (held n xs) ≤ length xs
   used_within = grind (arith, length-take n xs)
 
   module _ (f : R → ℕ) (k : ℕ) where
     -- the records in use, with one fewer
-    held_found : (at : ℕ) → place_of f k (held n xs) ≡ Some at → held (length (held n xs) - 1) (struck at (length (held n xs)) xs) ≡ without f k (held n xs)
+    pub held_found : (at : ℕ) → place_of f k (held n xs) ≡ Some at → held (length (held n xs) - 1) (struck at (length (held n xs)) xs) ≡ without f k (held n xs)
     held_found at e =
         grind (arith, place_within f k (held n xs) at, held_removed xs at (length (held n xs)), used_within, held_used, removed_without f k (held n xs) at)
 

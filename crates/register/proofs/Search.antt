@@ -18,3 +18,8 @@ module _ {R : Type 0} (f : R → ℕ) (k : ℕ) where
   removed_without [] i e = cc
   removed_without (x ∷ xs) zero e = grind arith
   removed_without (x ∷ xs) (suc i) e = grind (arith, removed_without xs i)
+
+  -- the record found bears the number
+  pub record_number : (xs : List R) (x : R) → record_of f k xs ≡ Some x → f x ≡ k
+  record_number [] x e = cc
+  record_number (y ∷ xs) x e = grind (arith, record_number xs x)

@@ -1,7 +1,8 @@
 -- Text split at its line feeds.
-use Rattle.std.proofs.Common.{◌≡◌, ℕ, ◌≤◌, eqb, List, [], ◌∷◌, ◌++◌, length, refl, arith}
+use Rattle.std.proofs.Common.{◌≡◌, ℕ, ◌+◌, ◌≤◌, eqb, List, [], ◌∷◌, ◌++◌, length, refl, arith}
 use Rattle.std.specs.List.{slice_split, onto_first}
 use Rattle.std.proofs.lemmas.Grind.{common_steps}
+use Rattle.std.proofs.lemmas.List.{nil_from_length}
 use Rattle.std.proofs.lemmas.List.Splits.{length-slice_split}
 use Rattle.workshop.specs.Lines.{ended, line_feeds, line_with, lines_in}
 
@@ -9,6 +10,13 @@ use Rattle.workshop.specs.Lines.{ended, line_feeds, line_with, lines_in}
 pub lines_count : (bs : List ℕ) → length (lines_in bs) ≡ line_feeds bs
 lines_count [] = refl
 lines_count (b ∷ bs) = grind (arith, common_steps, lines_count bs)
+
+pub no_lines : (bs : List ℕ) → line_feeds bs ≡ 0 → lines_in bs ≡ []
+no_lines bs none = nil_from_length (lines_in bs) (omega (arith, lines_count bs))
+
+pub feeds_append : (fs bs : List ℕ) → line_feeds (fs ++ bs) ≡ line_feeds fs + line_feeds bs
+feeds_append [] bs = omega arith
+feeds_append (a ∷ fs) bs = grind (arith, common_steps, feeds_append fs bs)
 
 pub lines_first : (line rest : List ℕ) → line_feeds line ≡ 0 → lines_in (line ++ (10 ∷ rest)) ≡ line ∷ lines_in rest
 lines_first [] rest none = refl
