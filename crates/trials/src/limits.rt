@@ -5,21 +5,16 @@ use parts::annexes::AnnexEntry;
 use parts::entries::Entry;
 use parts::plates::PlateEntry;
 use parts::welds::WeldEntry;
-use std::process::Abort;
 
-// Does each row of numbers, as an entry, have the field outside its limits that stands beside it? Fields
-// count from 1, and 0 stands for none.
-fn check_limits<E: Entry + From<[i32; N]> + Copy, const N: usize>(
-    rt: &impl Abort,
-    cases: &[([i32; N], u8)],
-)
+// The first field outside the limits of an entry of these numbers, counted from 1; 0 stands for none.
+fn fault<E: Entry + From<[i32; N]> + Copy, const N: usize>(numbers: [i32; N]) -> u8
 where
     E::Record: Copy,
 {
-    for (numbers, field) in cases {
-        let fault = E::from(*numbers).checked().err();
-        assert_eq!(rt; fault.map_or(0, |fault| fault.field), *field);
-    }
+    E::from(numbers)
+        .checked()
+        .err()
+        .map_or(0, |fault| fault.field)
 }
 
 #[test]
@@ -35,7 +30,9 @@ fn annex_limits(rt: HostRuntime) {
         ([1, 100, 99], 3),
         ([2, 100, 201], 3),
     ];
-    check_limits::<AnnexEntry, _>(&rt, &cases);
+    for (numbers, field) in cases {
+        assert_eq!(rt; fault::<AnnexEntry, _>(numbers), field);
+    }
 }
 
 #[test]
@@ -53,7 +50,9 @@ fn plate_limits(rt: HostRuntime) {
         ([1, 4, 276], 3),
         ([1, 4, -355], 3),
     ];
-    check_limits::<PlateEntry, _>(&rt, &cases);
+    for (numbers, field) in cases {
+        assert_eq!(rt; fault::<PlateEntry, _>(numbers), field);
+    }
 }
 
 #[test]
@@ -88,7 +87,9 @@ fn group_limits(rt: HostRuntime) {
         ([7, 1, 2, 20, 88, 2, 2, 40, 70, 40, 401], 11),
         ([7, 1, 2, 20, 88, 2, 1, 40, 70, 40, 1], 11),
     ];
-    check_limits::<BoltGroupEntry, _>(&rt, &cases);
+    for (numbers, field) in cases {
+        assert_eq!(rt; fault::<BoltGroupEntry, _>(numbers), field);
+    }
 }
 
 #[test]
@@ -108,5 +109,7 @@ fn weld_limits(rt: HostRuntime) {
         ([7, 1, 2, 50, 0], 5),
         ([7, 1, 2, 50, 1001], 5),
     ];
-    check_limits::<WeldEntry, _>(&rt, &cases);
+    for (numbers, field) in cases {
+        assert_eq!(rt; fault::<WeldEntry, _>(numbers), field);
+    }
 }
